@@ -1,0 +1,5 @@
+mod Floors
+mod Kept
+mod Layers
+mod Passes
+mod Runs
