@@ -7,8 +7,6 @@ use Prim.Native.Nat.{ℕ, zero, suc, _+_, _<_, _≤_}
 use native.Mathlib.Omega.{arith}
 use lib.Dec.{eqb}
 use lib.ListN.{length, getD, set, take, replicate}
-use Rattle.std.specs.shelf.Lists.{Has}
-use Rattle.std.proofs.shelf.Elements.{has-getD}
 use Rattle.std.proofs.shelf.Tests.{cases-eq, cases-lt, eq-eqb, ne-eqb, cond-true, cond-false, cond-both, true≢false, cases-bool}
 use Rattle.std.proofs.shelf.Lists.{length-set, getD-set-same, getD-set-other, take-more, getD-past, getD-replicate, length-replicate, getD-read}
 use Rattle.std.specs.declared.option.Option.{Option}
@@ -16,12 +14,7 @@ use Rattle.std.specs.declared.option.Option.the-variants.{Some, None}
 use Rattle.search.specs.declared.item.Item.{Item}
 use Rattle.search.specs.Limits.{most-events}
 use Rattle.search.specs.Kinds.{Kind, Laws, Le}
-use Rattle.search.specs.Chains.{Ends}
 use Rattle.search.specs.Rounds.{AtMost, Before, lift, least, pass, row-of, Cause, Why, Changed, Passed}
-
--- where the item at k begins and ends
-pub item-ends : (items : List Item) (n k : ℕ) (i : Item) → Ends n items → k < length items → i ≡ getD items k i → (i .from < n) × (i .to < n)
-item-ends items n k i ends h e = ends i (subst (Has items) (sym e) (has-getD items k i h))
 
 pass-push : {V : Type 0} (kind : Kind V) (row : ℕ → Option V) (j : ℕ) (acc : Option V) (xs : List Item) (i : Item) → pass kind row j acc (xs ++ i ∷ []) ≡ cond (eqb (i .to) j) (least kind (pass kind row j acc xs) (lift kind i (row (i .from)))) (pass kind row j acc xs)
 pass-push kind row j acc [] i = refl

@@ -1,7 +1,8 @@
 //! One step of a chain.
+ghost use Prim.Native.Nat.{_<_};
 ghost use lib.IntN.{pos, negℤ};
 ghost use lib.Signed.{_≤ℤ_};
-ghost use Rattle.search.specs.Limits.{most-weight};
+ghost use Rattle.search.specs.Limits.{most-events, most-weight};
 use crate::period::Period;
 
 /// Leads from the event `from` to the event `to`. It carries what a step needs to know of `to`: whether that is a
@@ -13,6 +14,8 @@ pub struct Item {
     pub weight: i64,
     pub period: Period,
     pub framed: bool,
+    ghost begins: { from < most-events },
+    ghost ends: { to < most-events },
     ghost low: { negℤ (pos most-weight) ≤ℤ weight },
     ghost high: { weight ≤ℤ pos most-weight },
 }

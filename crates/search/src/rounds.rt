@@ -2,11 +2,10 @@
 //! before left: so after n rounds each event has the least reading of chains of up to n items.
 ghost use mathlib.Core.Path.{_≡_};
 ghost use Prim.Native.Nat.{ℕ, _<_, _≤_};
-ghost use lib.ListN.{length, getD, set, replicate};
+ghost use lib.ListN.{length, set, replicate};
 ghost use Rattle.std.specs.Orderings.{When};
 ghost use Rattle.std.specs.declared.option.Option.the-variants.{Some, None};
 ghost use Rattle.search.specs.Limits.{most-events, most-rounds, most-items};
-ghost use Rattle.search.specs.Chains.{Ends};
 ghost use Rattle.search.specs.Rounds.{AtMost, Before, lift, row-of, Steppable, Passed, Sought};
 use crate::item::Item;
 use crate::limits::EVENTS;
@@ -65,20 +64,8 @@ fn bring<R: Reading>(item: &Item, offered: Option<R>, next: &mut [Option<R>]) ->
     false
 }
 
-// The item of this number.
-fn pick(items: &[Item], number: usize) -> Item
-    requires ends { ⌜ Ends most-events (now items) ⌝ }
-    requires known { ⌜ number < length (now items) ⌝ }
-    ensures from { λ r. ⌜ r .from < most-events ⌝ }
-    ensures to { λ r. ⌜ r .to < most-events ⌝ }
-    ensures is { λ r. ⌜ r ≡ getD (now (items .entry)) number r ⌝ }
-{
-    items[number]
-}
-
 // One round: `next` gets what the items make of `layer`.
 fn round<R: Reading>(items: &[Item], layer: &[Option<R>], next: &mut [Option<R>]) -> Made
-    requires ends { ⌜ Ends most-events (now items) ⌝ }
     requires few { ⌜ length (now items) ≤ most-items ⌝ }
     requires wide { ⌜ length (now layer) ≡ most-events ⌝ ∗ ⌜ length (now next) ≡ most-events ⌝ }
     requires steppable { ⌜ Steppable reached (row-of (now layer)) ⌝ }
@@ -88,7 +75,7 @@ fn round<R: Reading>(items: &[Item], layer: &[Option<R>], next: &mut [Option<R>]
     let mut causes = [None; EVENTS];
     let mut changed = None;
     for number in 0..items.len() {
-        let item = pick(items, number);
+        let item = items[number];
         let offered = offer(&item, layer[item.from]);
         if bring(&item, offered, next) {
             causes[item.to] = Some(number as u16);
@@ -119,7 +106,6 @@ pub fn search<R: Reading>(
     next: &mut [Option<R>],
     causes: &mut [Causes],
 ) -> Rounds
-    requires ends { ⌜ Ends most-events (now items) ⌝ }
     requires few { ⌜ length (now items) ≤ most-items ⌝ }
     requires begins { ⌜ start < most-events ⌝ }
     requires wide { ⌜ length (now layer) ≡ most-events ⌝ ∗ ⌜ length (now next) ≡ most-events ⌝ }
