@@ -26,6 +26,13 @@ impl Period {
         Some(Period { ticks })
     }
 
+    /// The period of one tick.
+    pub fn one() -> Period
+        ensures { λ r. ⌜ r .ticks ≡ pos 1 ⌝ }
+    {
+        Period { ticks: 1 }
+    }
+
     pub fn ticks(self) -> i64
         ensures { λ r. ⌜ r ≡ self .ticks ⌝ }
     {

@@ -1,1 +1,4 @@
+pub mod Book
+pub mod Held
 pub mod Limits
+pub mod Names

@@ -1,7 +1,9 @@
 //! The rows and gaps of a plan, with room for all that they may come to.
 ghost use Prim.Native.Nat.{_<_, _≤_};
+ghost use lib.IntN.{pos};
+ghost use lib.Signed.{_≤ℤ_};
 ghost use Rattle.std.specs.Of.Vec.{vec-len, vec-cap};
-ghost use Rattle.timetable.specs.Limits.{most-events, most-gaps};
+ghost use Rattle.timetable.specs.Limits.{most-events, most-gaps, most-length};
 use crate::row::Gap;
 use crate::row::Row;
 use search::Period;
@@ -13,6 +15,7 @@ pub struct Table {
     pub length: i64,
     pub rows: Vec<Row>,
     pub gaps: Vec<Gap>,
+    ghost short: { length ≤ℤ pos most-length },
     ghost opens: { 0 < vec-len rows },
     ghost few_rows: { vec-len rows ≤ most-events },
     ghost few_gaps: { vec-len gaps ≤ most-gaps },

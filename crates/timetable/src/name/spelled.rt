@@ -1,12 +1,23 @@
 //! Names from bytes, and back.
+ghost use mathlib.Core.Path.{_≡_};
+ghost use mathlib.Core.Bool.{true, false};
+ghost use lib.Chars.{codes};
+ghost use Rattle.std.specs.Options.{Cases};
+ghost use Rattle.std.specs.shelf.Text.{sameBytes};
+ghost use Rattle.timetable.specs.Names.{is-letter, letters, is-name};
+ghost use Rattle.timetable.specs.Held.{spelling};
 use crate::limits::NAME;
 use crate::name::Name;
 
-fn is_letter(b: u8) -> bool {
-    b.is_ascii_alphanumeric() || b == b'_' || b == b'-'
+fn is_letter(b: u8) -> bool
+    ensures { λ r. ⌜ r ≡ is-letter b ⌝ }
+{
+    b.is_ascii_alphabetic() || b.is_ascii_digit() || b == b'_' || b == b'-'
 }
 
-fn are_letters(bytes: &[u8]) -> bool {
+fn are_letters(bytes: &[u8]) -> bool
+    ensures { λ r. ⌜ r ≡ letters (now (bytes .entry)) ⌝ }
+{
     for b in bytes {
         if !is_letter(*b) {
             return false;
@@ -17,7 +28,9 @@ fn are_letters(bytes: &[u8]) -> bool {
 
 impl Name {
     /// The name of these bytes, where they make one.
-    pub fn checked(bytes: &[u8]) -> Option<Name> {
+    pub fn checked(bytes: &[u8]) -> Option<Name>
+        ensures { λ r. ⌜ Cases r (is-name (now (bytes .entry)) ≡ false) (λ n. (is-name (now (bytes .entry)) ≡ true) × (spelling n ≡ now (bytes .entry))) ⌝ }
+    {
         let len = bytes.len();
         if len < 1 || len > NAME || !are_letters(bytes) {
             return None;
@@ -28,20 +41,26 @@ impl Name {
     }
 
     /// The name of event 0.
-    pub fn opening() -> Name {
+    pub fn opening() -> Name
+        ensures { λ r. ⌜ spelling r ≡ codes "opening" ⌝ }
+    {
         Name {
             bytes: *b"opening\0\0\0\0\0\0\0\0\0",
             len: 7,
         }
     }
 
-    pub fn as_bytes(&self) -> &[u8] {
+    pub fn as_bytes(&self) -> &[u8]
+        ensures { λ r. ⌜ now r ≡ spelling (now (self .entry)) ⌝ }
+    {
         let len = self.len;
         &self.bytes[0..len]
     }
 
     /// Whether it is spelled so.
-    pub fn is(&self, bytes: &[u8]) -> bool {
+    pub fn is(&self, bytes: &[u8]) -> bool
+        ensures { λ r. ⌜ r ≡ sameBytes (spelling (now (self .entry))) (now (bytes .entry)) ⌝ }
+    {
         self.as_bytes() == bytes
     }
 }

@@ -1,0 +1,161 @@
+//! The calls of a plan. Each makes its checks in their order; a refusal leaves the plan as it was.
+use crate::plan::Plan;
+use crate::refusal::Refusal;
+use search::Period;
+use std::alloc::AllocError;
+use std::alloc::Global;
+use timetable::Found;
+use timetable::Gap;
+use timetable::Loop;
+use timetable::Mark;
+use timetable::Name;
+use timetable::Row;
+use timetable::Table;
+use timetable::limits::EVENTS;
+use timetable::limits::GAPS;
+use timetable::limits::LENGTH;
+use timetable::limits::PERIOD;
+use timetable::limits::WIDTH;
+use timetable::solve;
+
+// The timetable of the opening alone.
+fn alone() -> Found {
+    Found {
+        depth: 0,
+        times: [0; EVENTS],
+    }
+}
+
+// The latest timetable of the table, or a loop.
+fn solved(table: &Table) -> Result<Found, Loop> {
+    solve(table.period, table.rows.as_slice(), table.gaps.as_slice())
+}
+
+// The row of a new event.
+fn row_of(
+    table: &Table,
+    name: &[u8],
+    mark: Mark,
+    earliest: i64,
+    latest: i64,
+) -> Result<Row, Refusal> {
+    if table.rows.len() >= EVENTS {
+        return Err(Refusal::EventsFull);
+    }
+    let Some(spelled) = Name::checked(name) else {
+        return Err(Refusal::NameForm);
+    };
+    if table.number_of(name).is_some() {
+        return Err(Refusal::NameTaken);
+    }
+    let Some(window) = table.window_of(earliest, latest) else {
+        return Err(Refusal::EventWindow);
+    };
+    Ok(Row {
+        name: spelled,
+        mark,
+        window,
+    })
+}
+
+// The new gap.
+fn gap_of(table: &Table, from: usize, to: usize, width: i64) -> Result<Gap, Refusal> {
+    if from >= table.rows.len() || to >= table.rows.len() {
+        return Err(Refusal::GapUnknownEvent);
+    }
+    if from == to {
+        return Err(Refusal::GapSameEvent);
+    }
+    if width < -WIDTH || width > WIDTH {
+        return Err(Refusal::GapWidth);
+    }
+    if table.gaps.len() >= GAPS {
+        return Err(Refusal::GapsFull);
+    }
+    Ok(Gap { from, to, width })
+}
+
+impl Plan {
+    /// A fresh plan, with all the memory that it will ever want: period 1, length 1 and the opening alone.
+    pub fn fresh(heap: Global) -> Result<Plan, AllocError> {
+        let table = Table::fresh(heap)?;
+        Ok(Plan {
+            table,
+            found: alone(),
+        })
+    }
+
+    /// Turns it into the opening alone, with this period and length.
+    pub fn make(&mut self, period: i64, length: i64) -> Result<(), Refusal> {
+        let Some(clock) = Period::checked(period) else {
+            return Err(Refusal::PeriodRange);
+        };
+        if period > PERIOD {
+            return Err(Refusal::PeriodRange);
+        }
+        if length < 1 || length > LENGTH {
+            return Err(Refusal::LengthRange);
+        }
+        self.table.make(clock, length);
+        self.found = alone();
+        Ok(())
+    }
+
+    /// Adds an event, and answers its number.
+    pub fn event(
+        &mut self,
+        name: &[u8],
+        mark: Mark,
+        earliest: i64,
+        latest: i64,
+    ) -> Result<usize, Refusal> {
+        let row = row_of(&self.table, name, mark, earliest, latest)?;
+        let number = self.table.rows.len();
+        self.table.push_row(row);
+        match solved(&self.table) {
+            Ok(found) => {
+                self.found = found;
+                Ok(number)
+            }
+            Err(behind) => {
+                self.table.pop_row();
+                Err(Refusal::EventUntimed(behind))
+            }
+        }
+    }
+
+    /// Adds a gap, and answers its number.
+    pub fn gap(&mut self, from: usize, to: usize, width: i64) -> Result<usize, Refusal> {
+        let gap = gap_of(&self.table, from, to, width)?;
+        let number = self.table.gaps.len();
+        self.table.push_gap(gap);
+        match solved(&self.table) {
+            Ok(found) => {
+                self.found = found;
+                Ok(number)
+            }
+            Err(behind) => {
+                self.table.pop_gap();
+                Err(Refusal::GapUntimed(behind))
+            }
+        }
+    }
+
+    /// The time of an event.
+    pub fn time(&self, event: usize) -> Result<i64, Refusal> {
+        if event >= self.table.rows.len() {
+            return Err(Refusal::TimeUnknownEvent);
+        }
+        Ok(self.found.times[event])
+    }
+
+    /// How many items the chains have that the times rest on.
+    pub fn depth(&self) -> usize {
+        self.found.depth
+    }
+
+    /// The number of the event that has this name.
+    pub fn number_of(&self, name: &[u8]) -> Option<usize> {
+        self.table.number_of(name)
+    }
+}
