@@ -1,4 +1,7 @@
 //! Why a call is refused.
+ghost use mathlib.Core.Path.{_≡_};
+ghost use lib.ListN.{take};
+ghost use Rattle.planner.specs.Refusals.{number-of, loop-of};
 use timetable::Loop;
 
 /// Each case has a number; where no timetable is the cause, it has a loop that shows it.
@@ -21,7 +24,9 @@ pub enum Refusal {
 
 impl Refusal {
     /// The number by which the rules call it.
-    pub fn number(&self) -> u16 {
+    pub fn number(&self) -> u16
+        ensures { λ r. ⌜ r ≡ number-of (now (self .entry)) ⌝ }
+    {
         match self {
             Refusal::PeriodRange => 1,
             Refusal::LengthRange => 2,
@@ -40,7 +45,9 @@ impl Refusal {
     }
 
     /// The loop record: empty unless want of a timetable is the cause.
-    pub fn reducing_loop(&self) -> Loop {
+    pub fn reducing_loop(&self) -> Loop
+        ensures { λ r. ⌜ take (r .count) (r .codes) ≡ loop-of (now (self .entry)) ⌝ }
+    {
         match self {
             Refusal::EventUntimed(found) => *found,
             Refusal::GapUntimed(found) => *found,

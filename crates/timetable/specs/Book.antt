@@ -10,8 +10,8 @@ use lib.Chars.{codes}
 use Rattle.std.specs.declared.option.Option.{Option}
 use Rattle.std.specs.Options.{Cases, isSome}
 use Rattle.std.specs.shelf.Text.{sameBytes}
-use Rattle.timetable.specs.declared.row.Mark.{Mark}
-use Rattle.timetable.specs.declared.row.Mark.the-variants.{Frame, Free}
+use Rattle.timetable.specs.declared.mark.Mark.{Mark}
+use Rattle.timetable.specs.declared.mark.Mark.the-variants.{Frame, Free}
 
 -- an event
 pub record Row : Type 0 where

@@ -3,23 +3,8 @@ ghost use Prim.Native.Nat.{_<_};
 ghost use lib.IntN.{pos, negℤ};
 ghost use lib.Signed.{_≤ℤ_};
 ghost use Rattle.timetable.specs.Limits.{most-events, most-length, most-width};
+use crate::mark::Mark;
 use crate::name::Name;
-
-/// Where an event may lie: on the frame clock alone, at a multiple of the period, or on any tick.
-#[derive(Clone, Copy, PartialEq, Eq, Debug)]
-pub enum Mark {
-    Frame,
-    Free,
-}
-
-impl Mark {
-    pub fn is_frame(self) -> bool {
-        match self {
-            Mark::Frame => true,
-            Mark::Free => false,
-        }
-    }
-}
 
 /// An event lies from `earliest` to `latest`, both included.
 #[derive(Clone, Copy)]

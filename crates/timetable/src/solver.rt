@@ -23,6 +23,7 @@ use search::search;
 pub struct Found {
     pub depth: usize,
     pub times: [i64; EVENTS],
+    ghost wide: { length times ≡ most-events },
 }
 
 // m * (r + 1) for m frame events and r free ones: no chain of more items reads less, unless there is no timetable.

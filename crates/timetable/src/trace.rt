@@ -1,7 +1,7 @@
 //! The loop behind a change that comes too late.
-ghost use Prim.Native.Nat.{_+_, _<_, _≤_};
+ghost use Prim.Native.Nat.{ℕ, _+_, _<_, _≤_};
 ghost use mathlib.Core.Path.{_≡_};
-ghost use lib.ListN.{length};
+ghost use lib.ListN.{length, getD};
 ghost use Rattle.timetable.specs.Limits.{most-events, most-gaps, most-loop};
 use crate::items::code_of;
 use crate::items::is_frame;
@@ -17,10 +17,13 @@ pub struct Loop {
     pub count: usize,
     pub codes: [u16; LOOP],
     ghost fits: { count ≤ most-loop },
+    ghost blank: { (k : ℕ) → count ≤ k → getD codes k 0 ≡ 0 },
 }
 
 impl Loop {
-    pub fn empty() -> Loop {
+    pub fn empty() -> Loop
+        ensures { λ r. ⌜ r .count ≡ 0 ⌝ }
+    {
         Loop {
             count: 0,
             codes: [0; LOOP],

@@ -1,4 +1,12 @@
 //! A released scan: it can be read, and has to be closed once.
+ghost use mathlib.Core.Path.{_≡_};
+ghost use mathlib.Core.List.{map};
+ghost use lib.ListN.{length, drop};
+ghost use Rattle.std.specs.Of.Vec.{vec-items};
+ghost use Rattle.timetable.specs.Book.{frames};
+ghost use Rattle.timetable.specs.Held.{row-of};
+ghost use Rattle.planner.specs.Plans.{plan-book, plan-times};
+ghost use Rattle.planner.specs.Closing.{is-reached, all-reached, Counted};
 use crate::plan::Plan;
 use timetable::Row;
 
@@ -15,60 +23,94 @@ pub struct Closing {
     pub reached: usize,
 }
 
-// Whether the time has come by the tick.
-fn is_reached(time: i64, tick: u64) -> bool {
-    i128::from(time) <= i128::from(tick)
+// Whether the event is a frame event whose time has come by the tick.
+fn is_reached(row: &Row, time: i64, tick: u64) -> bool
+    ensures { λ r. ⌜ r ≡ is-reached tick (row-of (now (row .entry))) time ⌝ }
+{
+    row.mark.is_frame() && i128::from(time) <= i128::from(tick)
 }
 
-fn counted(rows: &[Row], times: &[i64], tick: u64) -> Closing {
+// How many frame events there are, the opening left out.
+fn count_planned(rows: &[Row]) -> usize
+    ensures { λ r. ⌜ r ≡ frames (drop 1 (map row-of (now (rows .entry)))) ⌝ }
+{
     let mut planned = 0usize;
-    let mut reached = 0usize;
-    for (row, time) in rows.iter().zip(times.iter()).skip(1) {
-        if row.mark.is_frame() {
+    for event in 1..rows.len() {
+        if rows[event].mark.is_frame() {
             planned += 1;
-            if is_reached(*time, tick) {
-                reached += 1;
-            }
         }
     }
-    Closing { planned, reached }
+    planned
+}
+
+// How many events are reached, the opening left out.
+fn count_reached(rows: &[Row], times: &[i64], tick: u64) -> usize
+    requires { ⌜ length (now times) ≡ length (now rows) ⌝ }
+    ensures { λ r. ⌜ r ≡ all-reached tick (drop 1 (map row-of (now (rows .entry)))) (drop 1 (now (times .entry))) ⌝ }
+{
+    let mut reached = 0usize;
+    for event in 1..rows.len() {
+        if is_reached(&rows[event], times[event], tick) {
+            reached += 1;
+        }
+    }
+    reached
 }
 
 impl Plan {
     /// Uses the plan up and gives the scan that it planned.
-    pub fn release(self) -> Released {
+    pub fn release(self) -> Released
+        ensures { λ r. ⌜ r .plan ≡ self ⌝ }
+    {
         Released { plan: self }
     }
 }
 
 impl Released {
     /// The length of the scan.
-    pub fn length(&self) -> i64 {
+    pub fn length(&self) -> i64
+        ensures { λ r. ⌜ r ≡ plan-book (now (self .entry) .plan) .length ⌝ }
+    {
         self.plan.table.length
     }
 
     /// The events by number.
-    pub fn rows(&self) -> &[Row] {
+    pub fn rows(&self) -> &[Row]
+        ensures { λ r. ⌜ now r ≡ vec-items (now (self .entry) .plan .table .rows) ⌝ }
+    {
         self.plan.table.rows.as_slice()
     }
 
     /// The times of the events by number.
-    pub fn times(&self) -> &[i64] {
+    pub fn times(&self) -> &[i64]
+        ensures value { λ r. ⌜ now r ≡ plan-times (now (self .entry) .plan) ⌝ }
+        ensures many { λ r. ⌜ length (now r) ≡ length (plan-book (now (self .entry) .plan) .rows) ⌝ }
+    {
         let events = self.plan.table.rows.len();
         &self.plan.found.times[0..events]
     }
 
-    pub fn depth(&self) -> usize {
+    pub fn depth(&self) -> usize
+        ensures { λ r. ⌜ r ≡ now (self .entry) .plan .found .depth ⌝ }
+    {
         self.plan.found.depth
     }
 
     /// What closing at this tick would answer.
-    pub fn counts(&self, tick: u64) -> Closing {
-        counted(self.rows(), self.times(), tick)
+    pub fn counts(&self, tick: u64) -> Closing
+        ensures { λ r. ⌜ Counted tick (plan-book (now (self .entry) .plan) .rows) (plan-times (now (self .entry) .plan)) (r .planned) (r .reached) ⌝ }
+    {
+        let rows = self.rows();
+        Closing {
+            planned: count_planned(rows),
+            reached: count_reached(rows, self.times(), tick),
+        }
     }
 
     /// Closes the scan at the tick where the shutter fell.
-    pub fn close(self, tick: u64) -> Closing {
+    pub fn close(self, tick: u64) -> Closing
+        ensures { λ r. ⌜ Counted tick (plan-book (self .plan) .rows) (plan-times (self .plan)) (r .planned) (r .reached) ⌝ }
+    {
         let closing = self.counts(tick);
         let Released { plan } = self;
         drop(plan);

@@ -16,7 +16,7 @@ use crate::limits::EVENTS;
 use crate::limits::GAPS;
 use crate::name::Name;
 use crate::row::Gap;
-use crate::row::Mark;
+use crate::mark::Mark;
 use crate::row::Row;
 use crate::row::Window;
 use crate::table::Table;

@@ -1,0 +1,4 @@
+pub mod Calls
+pub mod Closing
+pub mod Plans
+pub mod Refusals
