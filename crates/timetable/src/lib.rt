@@ -10,6 +10,7 @@ mod trace;
 
 pub use mark::Mark;
 pub use name::Name;
+pub use name::spelled::same_bytes;
 pub use row::Gap;
 pub use row::Row;
 pub use row::Window;

@@ -15,6 +15,7 @@ pub struct Table {
     pub length: i64,
     pub rows: Vec<Row>,
     pub gaps: Vec<Gap>,
+    ghost long: { pos 1 ≤ℤ length },
     ghost short: { length ≤ℤ pos most-length },
     ghost opens: { 0 < vec-len rows },
     ghost few_rows: { vec-len rows ≤ most-events },

@@ -1,7 +1,9 @@
 //! A released scan: it can be read, and has to be closed once.
 ghost use mathlib.Core.Path.{_≡_};
 ghost use mathlib.Core.List.{map};
+ghost use lib.IntN.{pos};
 ghost use lib.ListN.{length, drop};
+ghost use lib.Signed.{_≤ℤ_};
 ghost use Rattle.std.specs.Of.Vec.{vec-items};
 ghost use Rattle.timetable.specs.Book.{frames};
 ghost use Rattle.timetable.specs.Held.{row-of};
@@ -69,7 +71,8 @@ impl Plan {
 impl Released {
     /// The length of the scan.
     pub fn length(&self) -> i64
-        ensures { λ r. ⌜ r ≡ plan-book (now (self .entry) .plan) .length ⌝ }
+        ensures value { λ r. ⌜ r ≡ plan-book (now (self .entry) .plan) .length ⌝ }
+        ensures some { λ r. ⌜ pos 1 ≤ℤ r ⌝ }
     {
         self.plan.table.length
     }

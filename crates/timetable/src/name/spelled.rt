@@ -26,6 +26,13 @@ fn are_letters(bytes: &[u8]) -> bool
     true
 }
 
+/// Whether two texts have the same bytes.
+pub fn same_bytes(a: &[u8], b: &[u8]) -> bool
+    ensures { λ r. ⌜ r ≡ sameBytes (now (a .entry)) (now (b .entry)) ⌝ }
+{
+    a == b
+}
+
 impl Name {
     /// The name of these bytes, where they make one.
     pub fn checked(bytes: &[u8]) -> Option<Name>
@@ -61,6 +68,6 @@ impl Name {
     pub fn is(&self, bytes: &[u8]) -> bool
         ensures { λ r. ⌜ r ≡ sameBytes (spelling (now (self .entry))) (now (bytes .entry)) ⌝ }
     {
-        self.as_bytes() == bytes
+        same_bytes(self.as_bytes(), bytes)
     }
 }

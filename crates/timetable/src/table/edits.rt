@@ -68,7 +68,7 @@ impl Table {
 
     /// Turns it into the opening alone.
     pub fn make(&mut self, period: Period, length: i64)
-        requires { ⌜ length ≤ℤ pos most-length ⌝ }
+        requires { ⌜ pos 1 ≤ℤ length ⌝ ∗ ⌜ length ≤ℤ pos most-length ⌝ }
         ensures { λ _. ⌜ book-of (now (self .exit)) ≡ made (period .ticks) length ⌝ }
     {
         self.period = period;

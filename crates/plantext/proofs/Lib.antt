@@ -1,0 +1,4 @@
+mod FieldLaws
+mod LineLaws
+mod NumberLaws
+mod PutLaws

@@ -1,0 +1,125 @@
+//! Why a text is not loaded.
+use planner::Refusal;
+use std::alloc::AllocError;
+
+/// What is wrong with the text itself.
+#[derive(Clone, Copy)]
+pub enum TextFault {
+    TooLong,
+    Unended,
+    FirstWord,
+    FieldCount,
+    BadNumber,
+    UnknownName,
+    MarkWord,
+}
+
+impl TextFault {
+    /// The number by which the rules call it.
+    pub fn number(self) -> u16 {
+        match self {
+            TextFault::TooLong => 70,
+            TextFault::Unended => 71,
+            TextFault::FirstWord => 72,
+            TextFault::FieldCount => 73,
+            TextFault::BadNumber => 74,
+            TextFault::UnknownName => 75,
+            TextFault::MarkWord => 76,
+        }
+    }
+}
+
+/// What is wrong with the text of a line, in the field counted from 1, or 0 where it is no single field.
+#[derive(Clone, Copy)]
+pub struct Misread {
+    pub field: usize,
+    pub fault: TextFault,
+}
+
+/// The first cause, from the text or from the plan's call, as it came.
+#[derive(Clone, Copy)]
+pub enum Cause {
+    Text(TextFault),
+    Plan(Refusal),
+}
+
+impl Cause {
+    /// 1 for the text, 2 for the plan.
+    pub fn layer(&self) -> u16 {
+        match self {
+            Cause::Text(_) => 1,
+            Cause::Plan(_) => 2,
+        }
+    }
+
+    /// The cause's own number.
+    pub fn number(&self) -> u16 {
+        match self {
+            Cause::Text(fault) => fault.number(),
+            Cause::Plan(refusal) => refusal.number(),
+        }
+    }
+}
+
+/// What is wrong with a line: the field, 0 where it is no single field, and the cause.
+#[derive(Clone, Copy)]
+pub struct LineFault {
+    pub field: usize,
+    pub cause: Cause,
+}
+
+impl LineFault {
+    /// The same, with the number of the line.
+    pub fn on(self, line: usize) -> Fault {
+        Fault {
+            line,
+            field: self.field,
+            cause: self.cause,
+        }
+    }
+}
+
+pub impl From<Misread> for LineFault as LineFaultFromMisread {
+    fn from(misread: Misread) -> LineFault {
+        LineFault {
+            field: misread.field,
+            cause: Cause::Text(misread.fault),
+        }
+    }
+}
+
+pub impl From<Refusal> for LineFault as LineFaultFromRefusal {
+    fn from(refusal: Refusal) -> LineFault {
+        LineFault {
+            field: 0,
+            cause: Cause::Plan(refusal),
+        }
+    }
+}
+
+/// A load fault. Lines and fields are counted from 1; 0 where the fault has none.
+#[derive(Clone, Copy)]
+pub struct Fault {
+    pub line: usize,
+    pub field: usize,
+    pub cause: Cause,
+}
+
+/// Why there is no plan: a fault, or no memory for one.
+#[derive(Clone, Copy)]
+pub enum LoadError {
+    Fault(Fault),
+    Memory,
+}
+
+pub impl From<Fault> for LoadError as LoadErrorFromFault {
+    fn from(fault: Fault) -> LoadError {
+        LoadError::Fault(fault)
+    }
+}
+
+pub impl From<AllocError> for LoadError as LoadErrorFromAlloc {
+    fn from(_e: AllocError) -> LoadError {
+        LoadError::Memory
+    }
+}
