@@ -1,6 +1,8 @@
 //! Reads a plan text on standard input and prints its timetable, or its fault, on standard output. The status is 0
 //! where there is a timetable, and 1 where there is none.
 mod run;
+#[cfg(test)]
+mod tests;
 
 use plantext::limits::PRINT;
 use plantext::limits::TEXT;

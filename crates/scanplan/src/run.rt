@@ -1,11 +1,11 @@
 //! The whole job on a text in memory.
+use planner::Plan;
 use plantext::Fault;
 use plantext::LoadError;
 use plantext::ShortBuffer;
 use plantext::load;
 use plantext::print_fault;
 use plantext::print_scan;
-use planner::Plan;
 use std::alloc::AllocError;
 use std::alloc::Global;
 

@@ -99,7 +99,7 @@ module _ (p : ℤ) (f : FloorFacts p) where
   floor-near h x =
       by-ltZ x (floor p x +ℤ p) (λ l. l)
       (λ ge.
-        let one : pos 1 *ℤ p ≡ p = omega (arith, ints) in
-        let m : floor p (floor p x +ℤ p) ≡ floor p x +ℤ p = ap (λ (z : ℤ). floor p (floor p x +ℤ z)) (sym one) ∙ (f .moves-along (floor p x) (pos 1) ∙ (ap (λ (z : ℤ). floor p (floor p x) +ℤ z) one ∙ ap (λ (z : ℤ). z +ℤ p) (f .leaves (floor p x) (f .lands x)))) in
-        let o : (floor p x +ℤ p) ≤ℤ floor p x = subst (λ (z : ℤ). z ≤ℤ floor p x) m (f .keeps-order (floor p x +ℤ p) x ge) in
-        absurd (omega (arith, ints)))
+      let one : pos 1 *ℤ p ≡ p = omega (arith, ints) in
+      let m : floor p (floor p x +ℤ p) ≡ floor p x +ℤ p = ap (λ (z : ℤ). floor p (floor p x +ℤ z)) (sym one) ∙ (f .moves-along (floor p x) (pos 1) ∙ (ap (λ (z : ℤ). floor p (floor p x) +ℤ z) one ∙ ap (λ (z : ℤ). z +ℤ p) (f .leaves (floor p x) (f .lands x)))) in
+      let o : (floor p x +ℤ p) ≤ℤ floor p x = subst (λ (z : ℤ). z ≤ℤ floor p x) m (f .keeps-order (floor p x +ℤ p) x ge) in
+      absurd (omega (arith, ints)))

@@ -33,12 +33,6 @@ impl Period {
         Period { ticks: 1 }
     }
 
-    pub fn ticks(self) -> i64
-        ensures { λ r. ⌜ r ≡ self .ticks ⌝ }
-    {
-        self.ticks
-    }
-
     // How far `sum` is above the greatest multiple of the period that is not above it.
     fn above(self, sum: i64) -> i64
         ensures { λ r. ⌜ r ≡ remEuclid sum (self .ticks) ⌝ }

@@ -14,9 +14,9 @@ ghost use Rattle.timetable.specs.Book.{opening as opening-row, made, fresh as 
 ghost use Rattle.timetable.specs.Held.{row-of, gap-of, book-of};
 use crate::limits::EVENTS;
 use crate::limits::GAPS;
+use crate::mark::Mark;
 use crate::name::Name;
 use crate::row::Gap;
-use crate::mark::Mark;
 use crate::row::Row;
 use crate::row::Window;
 use crate::table::Table;
