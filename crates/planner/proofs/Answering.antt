@@ -9,8 +9,8 @@ use lib.ListN.{length, take}
 use Rattle.std.specs.declared.option.Option.{Option}
 use Rattle.std.specs.declared.option.Option.the-variants.{Some, None}
 use Rattle.std.proofs.shelf.Lists.{length-push, take-append-le, take-all}
-use Rattle.timetable.specs.declared.mark.Mark.{Mark}
-use Rattle.timetable.specs.Book.{Book, Row, Gap, with-rows, with-gaps}
+use Rattle.book.specs.declared.mark.Mark.{Mark}
+use Rattle.book.specs.Book.{Book, Row, Gap, with-rows, with-gaps}
 use Rattle.planner.specs.Calls.{Call, Answer, refused, failed, wants, changed, granted, Refused, Answered, ByBook}
 
 module _ (b : Book) (c : Call) (a : Answer) (after : Book) where

@@ -6,9 +6,9 @@ use Prim.Native.Nat.{ℕ, _+_, _<_, _≤_}
 use lib.IntN.{ℤ, pos}
 use lib.ListN.{length, getD, drop}
 use Rattle.std.proofs.shelf.Lists.{at-drop-more, at-drop-all, drop-more}
-use Rattle.timetable.specs.declared.row.Row.{Row as HeldRow}
-use Rattle.timetable.specs.Book.{Row, is-frame, count, frames}
-use Rattle.timetable.specs.Held.{row-of}
+use Rattle.book.specs.declared.row.Row.{Row as HeldRow}
+use Rattle.book.specs.Book.{Row, is-frame, count, frames}
+use Rattle.book.specs.Held.{row-of}
 use Rattle.planner.specs.Closing.{is-reached, all-reached}
 
 pub frames-at : (rows : List HeldRow) (i : ℕ) (d : HeldRow) (b : Bool) → i < length rows → b ≡ is-frame (getD rows i d .mark) → frames (map row-of (drop i rows)) ≡ count b + frames (map row-of (drop (i + 1) rows))

@@ -9,11 +9,11 @@ use Rattle.std.specs.Of.Vec.{vec-items, vec-len}
 use Rattle.std.specs.declared.option.Option.the-variants.{None}
 use Rattle.std.proofs.shelf.Lists.{length-map}
 use Rattle.std.proofs.shelf.Ways.{tells}
-use Rattle.timetable.specs.declared.mark.Mark.{Mark}
-use Rattle.timetable.specs.declared.table.Table.{Table}
-use Rattle.timetable.specs.Limits.{most-events, most-gaps}
-use Rattle.timetable.specs.Book.{Book}
-use Rattle.timetable.specs.Held.{row-of, gap-of, book-of}
+use Rattle.book.specs.declared.mark.Mark.{Mark}
+use Rattle.book.specs.declared.table.Table.{Table}
+use Rattle.book.specs.Limits.{most-events, most-gaps}
+use Rattle.book.specs.Book.{Book}
+use Rattle.book.specs.Held.{row-of, gap-of, book-of}
 use Rattle.planner.specs.Calls.{event, gap, failed}
 
 pub rows-many : (t : Table) → length (book-of t .rows) ≡ vec-len (t .rows)

@@ -10,10 +10,10 @@ use lib.Signed.{leZ}
 use lib.Dec.{eqb, ltb}
 use Rattle.std.specs.declared.option.Option.{Option}
 use Rattle.std.specs.declared.option.Option.the-variants.{Some, None}
-use Rattle.timetable.specs.declared.mark.Mark.{Mark}
-use Rattle.timetable.specs.Limits.{most-events, most-gaps, most-period, most-length, most-width}
-use Rattle.timetable.specs.Names.{is-name}
-use Rattle.timetable.specs.Book.{Book, Row, Gap, made, with-rows, with-gaps, has-name, good-window}
+use Rattle.book.specs.declared.mark.Mark.{Mark}
+use Rattle.book.specs.Limits.{most-events, most-gaps, most-period, most-length, most-width}
+use Rattle.book.specs.Names.{is-name}
+use Rattle.book.specs.Book.{Book, Row, Gap, made, with-rows, with-gaps, has-name, good-window}
 
 pub data Call : Type 0 where
   make : ℤ → ℤ → Call

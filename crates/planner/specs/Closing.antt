@@ -6,7 +6,7 @@ use Prim.Native.Nat.{ℕ, _+_}
 use lib.ListN.{drop}
 use lib.IntN.{ℤ, pos}
 use lib.Signed.{leZ}
-use Rattle.timetable.specs.Book.{Row, is-frame, count, frames}
+use Rattle.book.specs.Book.{Row, is-frame, count, frames}
 
 -- the event is a frame event, and its time is at most the tick
 abbrev pub is-reached : ℕ → Row → ℤ → Bool

@@ -2,8 +2,8 @@
 use mathlib.Core.List.{List}
 use lib.IntN.{ℤ}
 use lib.ListN.{length, take}
-use Rattle.timetable.specs.Book.{Book}
-use Rattle.timetable.specs.Held.{book-of}
+use Rattle.book.specs.Book.{Book}
+use Rattle.book.specs.Held.{book-of}
 use Rattle.planner.specs.declared.plan.Plan.{Plan}
 
 abbrev pub plan-book : Plan → Book

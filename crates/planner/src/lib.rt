@@ -5,4 +5,5 @@ mod refusal;
 pub use plan::Closing;
 pub use plan::Plan;
 pub use plan::Released;
+pub use plan::View;
 pub use refusal::Refusal;

@@ -1,6 +1,6 @@
 //! A plan: what was asked of it, and its latest timetable.
+use book::Table;
 use timetable::Found;
-use timetable::Table;
 
 #[derive(Drop)]
 pub struct Plan {
@@ -13,3 +13,4 @@ mod released;
 
 pub use released::Closing;
 pub use released::Released;
+pub use released::View;

@@ -1,5 +1,1 @@
-pub mod Lines
-pub mod Reads
-pub mod Fields
-pub mod Number
-pub mod Put
+pub mod Faults

@@ -1,4 +1,8 @@
 //! Why a text is not loaded.
+ghost use mathlib.Core.Path.{_≡_};
+ghost use Rattle.plantext.specs.Faults.{text-number, layer-of, number-of};
+ghost use Rattle.plantext.specs.declared.fault.Cause.the-variants.{Text, Plan};
+ghost use Rattle.plantext.specs.declared.fault.LoadError.the-variants.{Fault as Faulty, Memory};
 use planner::Refusal;
 use std::alloc::AllocError;
 
@@ -15,8 +19,10 @@ pub enum TextFault {
 }
 
 impl TextFault {
-    /// The number by which the rules call it.
-    pub fn number(self) -> u16 {
+    // The number by which the rules call it.
+    fn number(self) -> u16
+        ensures { λ r. ⌜ r ≡ text-number self ⌝ }
+    {
         match self {
             TextFault::TooLong => 70,
             TextFault::Unended => 71,
@@ -45,7 +51,9 @@ pub enum Cause {
 
 impl Cause {
     /// 1 for the text, 2 for the plan.
-    pub fn layer(&self) -> u16 {
+    pub fn layer(&self) -> u16
+        ensures { λ r. ⌜ r ≡ layer-of (now (self .entry)) ⌝ }
+    {
         match self {
             Cause::Text(_) => 1,
             Cause::Plan(_) => 2,
@@ -53,7 +61,9 @@ impl Cause {
     }
 
     /// The cause's own number.
-    pub fn number(&self) -> u16 {
+    pub fn number(&self) -> u16
+        ensures { λ r. ⌜ r ≡ number-of (now (self .entry)) ⌝ }
+    {
         match self {
             Cause::Text(fault) => fault.number(),
             Cause::Plan(refusal) => refusal.number(),
@@ -68,18 +78,9 @@ pub struct LineFault {
     pub cause: Cause,
 }
 
-impl LineFault {
-    /// The same, with the number of the line.
-    pub fn on(self, line: usize) -> Fault {
-        Fault {
-            line,
-            field: self.field,
-            cause: self.cause,
-        }
-    }
-}
-
 pub impl From<Misread> for LineFault as LineFaultFromMisread {
+    ghost converts = { λ m r. r ≡ record { field = m .field; cause = Text (m .fault) } };
+
     fn from(misread: Misread) -> LineFault {
         LineFault {
             field: misread.field,
@@ -89,6 +90,8 @@ pub impl From<Misread> for LineFault as LineFaultFromMisread {
 }
 
 pub impl From<Refusal> for LineFault as LineFaultFromRefusal {
+    ghost converts = { λ x r. r ≡ record { field = 0; cause = Plan x } };
+
     fn from(refusal: Refusal) -> LineFault {
         LineFault {
             field: 0,
@@ -113,12 +116,16 @@ pub enum LoadError {
 }
 
 pub impl From<Fault> for LoadError as LoadErrorFromFault {
+    ghost converts = { λ f r. r ≡ Faulty f };
+
     fn from(fault: Fault) -> LoadError {
         LoadError::Fault(fault)
     }
 }
 
 pub impl From<AllocError> for LoadError as LoadErrorFromAlloc {
+    ghost converts = { λ _ r. r ≡ Memory };
+
     fn from(_e: AllocError) -> LoadError {
         LoadError::Memory
     }

@@ -1,17 +1,9 @@
-//! Reads a plan text, and prints a released scan or a load fault.
-//!
-//! A plan text is any bytes. Its lines end with byte 10, and the fields of a line are parted by commas. What is read
-//! borrows the text, and what is printed goes into the caller's buffer.
+//! Loads a plan text, and prints a released scan or a load fault.
 mod fault;
-mod fields;
 pub mod limits;
 mod line;
 mod loading;
-mod number;
-mod part;
 mod print;
-mod put;
-mod reader;
 
 pub use fault::Cause;
 pub use fault::Fault;

@@ -3,8 +3,5 @@
 /// Bytes of a text.
 pub const TEXT: usize = 32_768;
 
-/// Digits of a number.
-pub const DIGITS: usize = 10;
-
-/// Bytes that print gives at the most: a time line for each of 40 events, or a loop line of 420 codes.
+/// Room for all that is ever printed: a time line for each of 40 events, or a loop line of 420 codes.
 pub const PRINT: usize = 4096;

@@ -1,13 +1,13 @@
 //! What a line says.
 use crate::fault::Misread;
 use crate::fault::TextFault;
-use crate::fields::first_field;
-use crate::fields::four;
-use crate::fields::three;
-use crate::fields::two;
-use crate::number::number;
-use timetable::Mark;
-use timetable::same_bytes;
+use book::Mark;
+use book::same_bytes;
+use text::first_field;
+use text::four;
+use text::read_number;
+use text::three;
+use text::two;
 
 /// A line that is well formed; its names are not looked up yet.
 #[derive(Clone, Copy)]
@@ -34,15 +34,15 @@ fn misread(field: usize, fault: TextFault) -> Misread {
 }
 
 // The number that stands in this field.
-fn read_number(text: &[u8], field: usize) -> Result<i64, Misread> {
-    match number(text) {
+fn number_in(text: &[u8], field: usize) -> Result<i64, Misread> {
+    match read_number(text) {
         Some(value) => Ok(value),
         None => Err(misread(field, TextFault::BadNumber)),
     }
 }
 
 // The mark that stands in this field.
-fn read_mark(text: &[u8], field: usize) -> Result<Mark, Misread> {
+fn mark_in(text: &[u8], field: usize) -> Result<Mark, Misread> {
     if same_bytes(text, b"frame") {
         return Ok(Mark::Frame);
     }
@@ -56,8 +56,8 @@ fn read_scan<'a>(left: Option<&'a [u8]>) -> Result<Line<'a>, Misread> {
     let Some((period, length)) = two(left) else {
         return Err(misread(0, TextFault::FieldCount));
     };
-    let period = read_number(period, 2)?;
-    let length = read_number(length, 3)?;
+    let period = number_in(period, 2)?;
+    let length = number_in(length, 3)?;
     Ok(Line::Scan { period, length })
 }
 
@@ -65,9 +65,9 @@ fn read_event<'a>(left: Option<&'a [u8]>) -> Result<Line<'a>, Misread> {
     let Some((name, mark, earliest, latest)) = four(left) else {
         return Err(misread(0, TextFault::FieldCount));
     };
-    let earliest = read_number(earliest, 4)?;
-    let latest = read_number(latest, 5)?;
-    let mark = read_mark(mark, 3)?;
+    let earliest = number_in(earliest, 4)?;
+    let latest = number_in(latest, 5)?;
+    let mark = mark_in(mark, 3)?;
     Ok(Line::Event {
         name,
         mark,
@@ -80,7 +80,7 @@ fn read_gap<'a>(left: Option<&'a [u8]>) -> Result<Line<'a>, Misread> {
     let Some((from, to, width)) = three(left) else {
         return Err(misread(0, TextFault::FieldCount));
     };
-    let width = read_number(width, 4)?;
+    let width = number_in(width, 4)?;
     Ok(Line::Gap { from, to, width })
 }
 

@@ -1,4 +1,7 @@
 //! Loads a plan text: make, and then the calls of its lines in their order.
+ghost use mathlib.Core.Path.{_≡_};
+ghost use mathlib.Core.Bool.{false};
+ghost use Rattle.std.specs.Results.{isOk};
 use crate::fault::Cause;
 use crate::fault::Fault;
 use crate::fault::LineFault;
@@ -12,9 +15,9 @@ use crate::fault::TextFault;
 use crate::limits::TEXT;
 use crate::line::Line;
 use crate::line::read_line;
-use crate::reader::Reader;
 use planner::Plan;
 use std::alloc::Global;
+use text::Reader;
 
 // The number of the last line, ended or not; 1 in an empty text.
 fn last_line(text: &[u8]) -> usize {
@@ -87,15 +90,18 @@ fn take_line(plan: &mut Plan, line: &[u8], first: bool) -> Result<(), LineFault>
 fn take_lines(plan: &mut Plan, text: &[u8]) -> Result<(), Fault> {
     let mut reader = Reader::new(text);
     while let Some((line, _rest)) = reader.next() {
-        if let Err(fault) = take_line(plan, line.bytes, reader.line == 1) {
-            return Err(fault.on(reader.line));
+        if let Err(LineFault { field, cause }) = take_line(plan, line.bytes, reader.line == 1) {
+            let line = reader.line;
+            return Err(Fault { line, field, cause });
         }
     }
     Ok(())
 }
 
 /// Turns `plan` into what the text describes. Where there is a fault or no memory, `plan` stays as it was.
-pub fn load(heap: Global, plan: &mut Plan, text: &[u8]) -> Result<(), LoadError> {
+pub fn load(heap: Global, plan: &mut Plan, text: &[u8]) -> Result<(), LoadError>
+    ensures { λ r. ⌜ (isOk r ≡ false → now (plan .exit) ≡ now (plan .entry)) ⌝ }
+{
     check_whole(text)?;
     let mut fresh = Plan::fresh(heap)?;
     take_lines(&mut fresh, text)?;

@@ -10,14 +10,14 @@ use std::alloc::AllocError;
 use std::alloc::Global;
 
 /// What was printed: so many bytes of a timetable, or of a fault.
-#[derive(Clone, Copy, PartialEq, Eq, Debug)]
+#[derive(Clone, Copy)]
 pub enum Printed {
     Timetable(usize),
     Fault(usize),
 }
 
 /// Why nothing was printed.
-#[derive(Clone, Copy, PartialEq, Eq, Debug)]
+#[derive(Clone, Copy)]
 pub enum Trouble {
     Memory,
     ShortBuffer,
@@ -38,7 +38,7 @@ pub impl From<ShortBuffer> for Trouble as TroubleFromShortBuffer {
 // Releases the plan, prints it at its length, and closes it there.
 fn print_released(plan: Plan, out: &mut [u8]) -> Result<usize, ShortBuffer> {
     let scan = plan.release();
-    let tick = scan.length() as u64;
+    let tick = scan.view().length as u64;
     let printed = print_scan(&scan, tick, out);
     let _ = scan.close(tick);
     printed

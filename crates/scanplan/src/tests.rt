@@ -37,7 +37,10 @@ fn faults_are_printed(rt: LibcRuntime) -> Result<(), Fail> {
         (b"scan,10,100\nevent,a b,free,0,5\n", b"fault,2,2,0,11\n"),
         (b"scan,10,100\ngap,opening,b,x\n", b"fault,1,2,4,74\n"),
         (b"scan,10,100\ngap,opening,b,5\n", b"fault,1,2,3,75\n"),
-        (b"scan,10,100\ngap,a,b,5\nevent,a,free,0,5\n", b"fault,1,2,2,75\n"),
+        (
+            b"scan,10,100\ngap,a,b,5\nevent,a,free,0,5\n",
+            b"fault,1,2,2,75\n",
+        ),
     ];
     for (text, lines) in table {
         check(gives(heap, text, lines))?;

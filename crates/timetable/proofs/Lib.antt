@@ -1,3 +1,2 @@
 mod Blanks
-pub mod Fronts
 mod Products

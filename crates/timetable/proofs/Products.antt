@@ -5,7 +5,7 @@ use Prim.Native.Nat.{ℕ, _+_, _-_, _*_, _<_, _≤_}
 use native.Mathlib.Omega.{arith}
 use native.Mathlib.Nat.{mul-le-mul-left, mul-le-mul-right, mul-comm}
 use Rattle.std.proofs.shelf.Tests.{cases-lt}
-use Rattle.timetable.specs.Limits.{most-events, most-loop}
+use Rattle.book.specs.Limits.{most-events, most-loop}
 
 low : (a b : ℕ) → a ≤ 20 → a + b ≤ 41 → a * b ≤ 420
 low a b h l =

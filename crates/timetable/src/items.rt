@@ -2,11 +2,11 @@
 ghost use Prim.Native.Nat.{_+_, _-_, _*_, _<_, _≤_};
 ghost use mathlib.Core.Path.{_≡_};
 ghost use lib.ListN.{length};
-ghost use Rattle.timetable.specs.Limits.{most-events, most-gaps};
-use crate::limits::NOT_AFTER;
-use crate::limits::NOT_BEFORE;
-use crate::row::Gap;
-use crate::row::Row;
+ghost use Rattle.book.specs.Limits.{most-events, most-gaps};
+use book::Gap;
+use book::Row;
+use book::limits::NOT_AFTER;
+use book::limits::NOT_BEFORE;
 use search::Item;
 use search::Period;
 

@@ -1,20 +1,8 @@
-//! What a plan asks, and the latest timetable that keeps it.
+//! The latest timetable of a plan, or a loop that shows that there is none.
 mod items;
-pub mod limits;
-mod mark;
-mod name;
-mod row;
 mod solver;
-mod table;
 mod trace;
 
-pub use mark::Mark;
-pub use name::Name;
-pub use name::spelled::same_bytes;
-pub use row::Gap;
-pub use row::Row;
-pub use row::Window;
 pub use solver::Found;
 pub use solver::solve;
-pub use table::Table;
 pub use trace::Loop;

@@ -2,12 +2,12 @@
 ghost use Prim.Native.Nat.{ℕ, _+_, _<_, _≤_};
 ghost use mathlib.Core.Path.{_≡_};
 ghost use lib.ListN.{length, getD};
-ghost use Rattle.timetable.specs.Limits.{most-events, most-gaps, most-loop};
+ghost use Rattle.book.specs.Limits.{most-events, most-gaps, most-loop};
 use crate::items::code_of;
 use crate::items::is_frame;
-use crate::limits::LOOP;
-use crate::row::Gap;
-use crate::row::Row;
+use book::Gap;
+use book::Row;
+use book::limits::LOOP;
 use search::Causes;
 use search::Item;
 

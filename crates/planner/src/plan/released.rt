@@ -5,12 +5,12 @@ ghost use lib.IntN.{pos};
 ghost use lib.ListN.{length, drop};
 ghost use lib.Signed.{_≤ℤ_};
 ghost use Rattle.std.specs.Of.Vec.{vec-items};
-ghost use Rattle.timetable.specs.Book.{frames};
-ghost use Rattle.timetable.specs.Held.{row-of};
+ghost use Rattle.book.specs.Book.{frames};
+ghost use Rattle.book.specs.Held.{row-of};
 ghost use Rattle.planner.specs.Plans.{plan-book, plan-times};
 ghost use Rattle.planner.specs.Closing.{is-reached, all-reached, Counted};
 use crate::plan::Plan;
-use timetable::Row;
+use book::Row;
 
 /// A plan that is not changed any more. It is no `Drop`: a program that lets one go without closing it is refused.
 pub struct Released {
@@ -68,45 +68,43 @@ impl Plan {
     }
 }
 
+/// What can be read of a released scan: its length, and the events and their times by number, and its depth.
+#[derive(Clone, Copy)]
+pub struct View<'a> {
+    pub length: i64,
+    pub rows: &'a [Row],
+    pub times: &'a [i64],
+    pub depth: usize,
+}
+
 impl Released {
-    /// The length of the scan.
-    pub fn length(&self) -> i64
-        ensures value { λ r. ⌜ r ≡ plan-book (now (self .entry) .plan) .length ⌝ }
-        ensures some { λ r. ⌜ pos 1 ≤ℤ r ⌝ }
+    /// All that can be read of it.
+    pub fn view(&self) -> View<'_>
+        ensures length { λ r. ⌜ r .length ≡ plan-book (now (self .entry) .plan) .length ⌝ }
+        ensures some { λ r. ⌜ pos 1 ≤ℤ r .length ⌝ }
+        ensures rows { λ r. ⌜ now (r .rows) ≡ vec-items (now (self .entry) .plan .table .rows) ⌝ }
+        ensures times { λ r. ⌜ now (r .times) ≡ plan-times (now (self .entry) .plan) ⌝ }
+        ensures many { λ r. ⌜ length (now (r .times)) ≡ length (now (r .rows)) ⌝ }
+        ensures depth { λ r. ⌜ r .depth ≡ now (self .entry) .plan .found .depth ⌝ }
     {
-        self.plan.table.length
-    }
-
-    /// The events by number.
-    pub fn rows(&self) -> &[Row]
-        ensures { λ r. ⌜ now r ≡ vec-items (now (self .entry) .plan .table .rows) ⌝ }
-    {
-        self.plan.table.rows.as_slice()
-    }
-
-    /// The times of the events by number.
-    pub fn times(&self) -> &[i64]
-        ensures value { λ r. ⌜ now r ≡ plan-times (now (self .entry) .plan) ⌝ }
-        ensures many { λ r. ⌜ length (now r) ≡ length (plan-book (now (self .entry) .plan) .rows) ⌝ }
-    {
-        let events = self.plan.table.rows.len();
-        &self.plan.found.times[0..events]
-    }
-
-    pub fn depth(&self) -> usize
-        ensures { λ r. ⌜ r ≡ now (self .entry) .plan .found .depth ⌝ }
-    {
-        self.plan.found.depth
+        let rows = self.plan.table.rows.as_slice();
+        let events = rows.len();
+        View {
+            length: self.plan.table.length,
+            rows,
+            times: &self.plan.found.times[0..events],
+            depth: self.plan.found.depth,
+        }
     }
 
     /// What closing at this tick would answer.
     pub fn counts(&self, tick: u64) -> Closing
         ensures { λ r. ⌜ Counted tick (plan-book (now (self .entry) .plan) .rows) (plan-times (now (self .entry) .plan)) (r .planned) (r .reached) ⌝ }
     {
-        let rows = self.rows();
+        let view = self.view();
         Closing {
-            planned: count_planned(rows),
-            reached: count_reached(rows, self.times(), tick),
+            planned: count_planned(view.rows),
+            reached: count_reached(view.rows, view.times, tick),
         }
     }
 

@@ -1,4 +1,4 @@
-use Rattle.timetable.specs.Limits.{most-loop}
+use Rattle.book.specs.Limits.{most-loop}
 use Rattle.timetable.proofs.Blanks.{zero-at}
 use Rattle.timetable.proofs.trace.cut.Needs as need
 

@@ -1,5 +1,5 @@
 use Prim.Native.Nat.{_<_}
-use Rattle.timetable.specs.Limits.{most-events}
+use Rattle.book.specs.Limits.{most-events}
 use Rattle.timetable.proofs.trace.walk.Given as given
 
 abbrev pub Inv-loop-k : given.InvT-loop-k

@@ -7,8 +7,8 @@ use mathlib.Core.Path.{_≡_, refl, sym, ap, _∙_}
 use Rattle.std.proofs.shelf.Tests.{true≢false}
 use mathlib.Core.List.{[], _∷_, _++_}
 use Prim.Native.Nat.{ℕ}
-use Rattle.timetable.specs.Book.{Row, with-rows}
-use Rattle.timetable.specs.Held.{row-of, book-of}
+use Rattle.book.specs.Book.{Row, with-rows}
+use Rattle.book.specs.Held.{row-of, book-of}
 use Rattle.planner.specs.Calls.{event, numbered, refused}
 use Rattle.planner.proofs.Answering.{by-grant, by-want, rows-undone}
 use Rattle.planner.proofs.Holds.{rows-many, room-for-row}

@@ -7,8 +7,8 @@ use mathlib.Core.Path.{_≡_, refl, sym, ap, _∙_}
 use Rattle.std.proofs.shelf.Tests.{true≢false}
 use mathlib.Core.List.{[], _∷_, _++_}
 use Prim.Native.Nat.{ℕ}
-use Rattle.timetable.specs.Book.{Gap, with-gaps}
-use Rattle.timetable.specs.Held.{gap-of, book-of}
+use Rattle.book.specs.Book.{Gap, with-gaps}
+use Rattle.book.specs.Held.{gap-of, book-of}
 use Rattle.planner.specs.Calls.{gap, numbered, refused}
 use Rattle.planner.proofs.Answering.{by-grant, by-want, gaps-undone}
 use Rattle.planner.proofs.Holds.{gaps-many, room-for-gap}

@@ -3,8 +3,8 @@ use mathlib.Core.Path.{_≡_, sym, ap, _∙_}
 use mathlib.Core.Bool.{true, false}
 use Prim.Native.Nat.{ℕ, _+_}
 use Rattle.std.proofs.shelf.Lists.{drop-map}
-use Rattle.timetable.specs.Book.{frames}
-use Rattle.timetable.specs.Held.{row-of}
+use Rattle.book.specs.Book.{frames}
+use Rattle.book.specs.Held.{row-of}
 use Rattle.planner.proofs.Counts.{frames-at, frames-past}
 use Rattle.planner.proofs.plan.released.count_planned.Needs as need
 use Rattle.planner.proofs.plan.released.count_planned.Needs.{then-is-frame, else-is-frame}

@@ -2,8 +2,8 @@ use mathlib.Core.Path.{_≡_}
 use mathlib.Core.List.{map}
 use Prim.Native.Nat.{_+_, _≤_}
 use lib.ListN.{drop}
-use Rattle.timetable.specs.Book.{frames}
-use Rattle.timetable.specs.Held.{row-of}
+use Rattle.book.specs.Book.{frames}
+use Rattle.book.specs.Held.{row-of}
 use Rattle.planner.proofs.plan.released.count_planned.Given as given
 
 -- what was counted, and what is left to count

@@ -10,9 +10,9 @@ use lib.IntN.{pos}
 use lib.ListN.{length, getD, drop}
 use Rattle.std.proofs.shelf.Lists.{drop-map}
 use Rattle.std.proofs.shelf.Signed.{toZ-ofZ}
-use Rattle.timetable.specs.declared.row.Row.{Row as HeldRow}
-use Rattle.timetable.specs.Book.{Row}
-use Rattle.timetable.specs.Held.{row-of}
+use Rattle.book.specs.declared.row.Row.{Row as HeldRow}
+use Rattle.book.specs.Book.{Row}
+use Rattle.book.specs.Held.{row-of}
 use Rattle.planner.specs.Closing.{is-reached, all-reached}
 use Rattle.planner.proofs.Counts.{reached-at, reached-past}
 use Rattle.planner.proofs.plan.released.count_reached.Needs as need

@@ -2,7 +2,7 @@ use mathlib.Core.Path.{_≡_}
 use mathlib.Core.List.{map}
 use Prim.Native.Nat.{_+_, _≤_}
 use lib.ListN.{drop}
-use Rattle.timetable.specs.Held.{row-of}
+use Rattle.book.specs.Held.{row-of}
 use Rattle.planner.specs.Closing.{all-reached}
 use Rattle.planner.proofs.plan.released.count_reached.Given as given
 

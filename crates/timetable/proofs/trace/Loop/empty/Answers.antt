@@ -1,5 +1,5 @@
 use native.Mathlib.Omega.{arith}
-use Rattle.timetable.specs.Limits.{most-loop}
+use Rattle.book.specs.Limits.{most-loop}
 use Rattle.timetable.proofs.Blanks.{zero-at}
 use Rattle.timetable.proofs.trace.Loop.empty.Needs as need
 

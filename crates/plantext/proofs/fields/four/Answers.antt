@@ -1,6 +1,0 @@
-use borrow.Author.Needs.{needs}
-use Rattle.plantext.proofs.FieldLaws.{some-split}
-use Rattle.plantext.proofs.fields.four.Needs as need
-
-pub returns-in-rest-first-field-3 : need.returns-in-rest-first-field-3
-returns-in-rest-first-field-3 c = search (needs, some-split)

@@ -1,6 +1,0 @@
-use borrow.Author.Needs.{needs}
-use Rattle.plantext.proofs.FieldLaws.{some-split}
-use Rattle.plantext.proofs.fields.three.Needs as need
-
-pub returns-in-rest-first-field-2 : need.returns-in-rest-first-field-2
-returns-in-rest-first-field-2 c = search (needs, some-split)

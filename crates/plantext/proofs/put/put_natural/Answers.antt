@@ -1,9 +1,0 @@
-use native.Mathlib.Omega.{arith}
-use Rattle.plantext.proofs.PutLaws.{digits-part}
-use Rattle.plantext.proofs.put.put_natural.Needs as need
-
-pub returns : need.returns
-returns c =
-    let written = c .write-digits-start in
-    let bytes = digits-part (written .last .buffer) _ (written .result) (omega arith) (written .ensures .digits) in
-    rw bytes at (c .put .ensures)

@@ -1,9 +1,0 @@
-use mathlib.Core.Path.{subst}
-use mathlib.Core.List.{List, map}
-use Rattle.timetable.specs.declared.row.Row.{Row as HeldRow}
-use Rattle.timetable.specs.Book.{Lookup}
-use Rattle.timetable.specs.Held.{row-of}
-use Rattle.timetable.proofs.table.Table.number_of.Needs as need
-
-pub returns : need.returns
-returns c = subst (λ (xs : List HeldRow). Lookup (map row-of xs) (c .args .name .now) (c .named .result)) (c .as-slice .ensures .value) (c .named .ensures)
