@@ -49,9 +49,6 @@ with-rows b rs = record { period = b .period; length = b .length; rows = rs; gap
 abbrev pub with-gaps : Book → List Gap → Book
 with-gaps b gs = record { period = b .period; length = b .length; rows = b .rows; gaps = gs }
 
-abbrev pub row : Book → ℕ → Row
-row b j = getD (b .rows) j opening
-
 abbrev pub is-frame : Mark → Bool
 is-frame Frame = true
 is-frame Free = false
@@ -60,18 +57,10 @@ abbrev pub count : Bool → ℕ
 count true = 1
 count false = 0
 
--- how many frame events there are, and how many free ones
+-- how many frame events there are
 abbrev pub frames : List Row → ℕ
 frames [] = 0
 frames (r ∷ rs) = count (is-frame (r .mark)) + frames rs
-
-abbrev pub frees : List Row → ℕ
-frees [] = 0
-frees (r ∷ rs) = count (is-free (r .mark)) + frees rs
-  where
-    is-free : Mark → Bool
-    is-free Frame = false
-    is-free Free = true
 
 -- some event has the name
 abbrev pub has-name : List Row → List ℕ → Bool

@@ -110,6 +110,7 @@ impl Plan {
     /// Turns it into the opening alone, with this period and length.
     pub fn make(&mut self, period: i64, length: i64) -> Result<(), Refusal>
         ensures answer { λ r. ⌜ ByBook (plan-book (now (self .entry))) (make-call period length) (said-plain r) (plan-book (now (self .exit))) ⌝ }
+        ensures alone { λ r. ⌜ (isOk r ≡ true → (now (self .exit) .found .depth ≡ 0) × (now (self .exit) .found .times ≡ replicate most-events (pos 0))) ⌝ }
         ensures stays { λ r. ⌜ (isOk r ≡ false → now (self .exit) .found ≡ now (self .entry) .found) ⌝ }
     {
         let Some(clock) = Period::checked(period) else {
