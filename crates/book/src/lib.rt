@@ -1,4 +1,6 @@
 //! What a plan asks: its events and gaps, and the table that holds them.
+#![tactic(auto)]
+
 pub mod limits;
 mod mark;
 mod name;

@@ -1,4 +1,6 @@
 //! Loops of items that no timetable keeps: the way back from a change that comes too late, and the loop on it.
+#![tactic(auto)]
+
 mod trace;
 
 pub use trace::{Part, loop_behind};

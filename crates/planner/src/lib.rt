@@ -1,4 +1,6 @@
 //! A plan and its calls.
+#![tactic(auto)]
+
 mod plan;
 mod refusal;
 

@@ -1,4 +1,6 @@
 //! Loads a plan text, and prints a released scan or a load fault.
+#![tactic(auto)]
+
 mod fault;
 pub mod limits;
 mod line;

@@ -1,5 +1,7 @@
 //! Reads a plan text on standard input and prints its timetable, or its fault, on standard output. The status is 0
 //! where there is a timetable, and 1 where there is none.
+#![tactic(auto)]
+
 mod run;
 #[cfg(test)]
 mod tests;

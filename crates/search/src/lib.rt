@@ -1,4 +1,6 @@
 //! Least readings along chains of items, by rounds.
+#![tactic(auto)]
+
 mod item;
 pub mod limits;
 mod period;

@@ -2,6 +2,8 @@
 //!
 //! A text is any bytes. Its lines end with byte 10, and the fields of a line are parted by commas. What is read borrows
 //! the text, and what is put goes into the caller's buffer.
+#![tactic(auto)]
+
 mod fields;
 mod limits;
 mod number;

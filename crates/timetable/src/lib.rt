@@ -1,4 +1,6 @@
 //! The latest timetable of a plan, or a loop that shows that there is none.
+#![tactic(auto)]
+
 mod found;
 mod items;
 mod solver;
