@@ -1,14 +1,14 @@
 -- What the rounds hold is the least that chains read.
-use Rattle.std.proofs.Common.{◌≡◌, ℕ, zero, suc, ◌+◌, ◌<◌, ◌≤◌, Bool, true, false, cond, eqb, ◌⊎◌, List, [], ◌∷◌, ◌++◌, length, Some, None, Option, sym, refl, ap, ◌∙◌, subst, inl, inr, ⊎_elim, arith}
+use Rattle.std.proofs.Common.{◌≡◌, ℕ, zero, suc, ◌+◌, ◌<◌, ◌≤◌, true, cond, eqb, ◌⊎◌, List, [], ◌∷◌, ◌++◌, length, Some, None, Option, sym, refl, ap, ◌∙◌, subst, inl, inr, ⊎_elim, arith}
 use mathlib.Core.Path.{fun_ext}
 use Rattle.std.specs.List.{ContainsAt as Has}
 use Rattle.std.proofs.lemmas.List.{length_push, nil_from_length}
-use Rattle.std.proofs.lemmas.Bool.{cases_eq, cond_both, cond-true, cond-false, true≢false, eqb-true, eqb-false, eq-eqb, ne_eqb}
+use Rattle.std.proofs.lemmas.Bool.{cond_both, true≢false, eqb-true, eqb-false}
 use Rattle.search.specs.declared.item.Item.{Item}
 use Rattle.search.specs.Limits.{most_rounds}
 use Rattle.search.specs.Kinds.{Kind, Laws, Le}
 use Rattle.search.specs.Chains.{Leads, read, Reads, LeastOf, Least, LeastEver, Settles}
-use Rattle.search.specs.Rounds.{AtMost, Before, lift, least, pass, best, Steppable, Still}
+use Rattle.search.specs.Rounds.{Before, lift, least, pass, best, Steppable, Still}
 use Rattle.search.proofs.Passes.{has_cons}
 
 leads_push : (items : List Item) (a : ℕ) (c : List Item) (i : Item) → Leads items a c i.from → Has items i → Leads items a (c ++ i ∷ []) i.to

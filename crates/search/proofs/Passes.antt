@@ -1,12 +1,12 @@
 -- One more item of a round.
-use Rattle.std.proofs.Common.{◌≡◌, ℕ, zero, suc, ◌+◌, ◌<◌, ◌≤◌, Bool, true, false, cond, eqb, ◌⊎◌, List, [], ◌∷◌, ◌++◌, length, get_or, take, set, replicate, Some, None, Option, sym, refl, ap, ◌∙◌, subst, inl, inr, arith}
+use Rattle.std.proofs.Common.{◌≡◌, ℕ, zero, suc, ◌+◌, ◌<◌, cond, eqb, ◌⊎◌, List, [], ◌∷◌, ◌++◌, length, get_or, take, set, replicate, Some, None, Option, sym, refl, ap, ◌∙◌, subst, inl, inr, arith}
 use Rattle.std.proofs.lemmas.Bool.{cases_eq, cases_lt, eq-eqb, ne_eqb, cond-true, cond-false, cond_both, true≢false, cases_Bool}
 use Rattle.std.proofs.lemmas.List.{length-set, get_or-set_same, get_or-set_other, take_more, get_or_past, get_or-replicate, length-replicate, get_or_read}
 use Rattle.std.specs.List.{ContainsAt as Has}
 use Rattle.search.specs.declared.item.Item.{Item}
 use Rattle.search.specs.Limits.{most_events}
-use Rattle.search.specs.Kinds.{Kind, Laws, Le}
-use Rattle.search.specs.Rounds.{AtMost, Before, lift, least, pass, row_of, Cause, Why, Changed, Passed}
+use Rattle.search.specs.Kinds.{Kind, Laws}
+use Rattle.search.specs.Rounds.{AtMost, Before, lift, least, pass, row_of, Cause, Why, Passed}
 
 pub has_cons : (i : Item) (is : List Item) (x : Item) → Has (i ∷ is) x → (i ≡ x) ⊎ Has is x
 has_cons i is x (zero, l, a) = inl (a x)

@@ -1,10 +1,10 @@
 -- The facts of the step down, and what follows from them alone.
-use Rattle.std.specs.Prelude.{◌≡◌, ℕ, suc, ◌+◌, ◌-◌, ◌*◌, ◌/◌, ◌%◌, ◌<◌, ◌≤◌, ℤ, pos, negsuc, ◌+ℤ◌, ◌-ℤ◌, ◌*ℤ◌, ◌≤ℤ◌, ◌<ℤ◌, refl}
+use Rattle.std.specs.Prelude.{◌≡◌, ℕ, ◌+◌, ◌*◌, ◌/◌, ◌<◌, ◌≤◌, ℤ, pos, negsuc, ◌+ℤ◌, ◌*ℤ◌, ◌≤ℤ◌, ◌<ℤ◌}
 use Rattle.std.proofs.Common.{sym, ap, subst, ◌∙◌, arith, div-add-mod', mod-lt, add-mul, mul-le-mul_right}
 use borrow.Author.Differences.{up, down, sum_is_lem}
 use Rattle.std.specs.Int.{int_rem_euclid, int_div_euclid}
 use Rattle.std.proofs.lemmas.Int.{ints, by_lt_z}
-use Rattle.search.specs.Floor.{floor, Multiple, GreatestMultiple, FloorFacts}
+use Rattle.search.specs.Floor.{floor, GreatestMultiple, FloorFacts}
 
 module _ (p : ℕ) (h : 0 < p) where
   abbrev P : ℤ

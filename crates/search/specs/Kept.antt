@@ -1,11 +1,11 @@
 -- Carried time keeps the laws of a reading.
-use Rattle.std.specs.Prelude.{◌≡◌, ℕ, ◌+◌, ◌*◌, ◌<◌, ◌≤◌, Bool, true, false, cond, ℤ, pos, ◌+ℤ◌, neg_ℤ, ◌≤ℤ◌, ◌<ℤ◌, int_lt, refl}
-use Rattle.std.proofs.Common.{sym, ap, subst, ◌∙◌, arith}
+use Rattle.std.specs.Prelude.{◌≡◌, ◌+◌, Bool, true, false, cond, ℤ, ◌+ℤ◌, ◌≤ℤ◌, int_lt}
+use Rattle.std.proofs.Common.{ap, arith}
 use Rattle.std.proofs.lemmas.Int.{ints}
 use Rattle.std.proofs.lemmas.Bool.{cond_both}
 use Rattle.search.specs.declared.item.Item.{Item}
 use Rattle.search.specs.Floor.{floor, FloorFacts}
-use Rattle.search.specs.Kinds.{Laws, Le}
+use Rattle.search.specs.Kinds.{Laws}
 use Rattle.search.specs.Carried.{time, carry, carried, InRange}
 use Rattle.search.specs.Floors.{floor_facts, floor_near}
 

@@ -29,8 +29,8 @@ pub struct Rounds {
 
 // What the item makes of the reading where it begins.
 fn offer<R: Reading>(item: &Item, held: Option<R>) -> Option<R>
-    requires { (v : R) → held ≡ Some v → (k : ℕ) × (k < most_rounds) × reached k v }
-    ensures { result ≡ lift kind item.now held }
+    requires { (v : R) → held ≡ Some v → (k : ℕ) × (k < most_rounds) × R.reached k v }
+    ensures { result ≡ lift R.kind item.now held }
 {
     match held {
         Some(value) => Some(value.step(item)),
@@ -40,7 +40,7 @@ fn offer<R: Reading>(item: &Item, held: Option<R>) -> Option<R>
 
 // Strictly before, where no reading is after every reading.
 fn first_of<R: Reading>(a: Option<R>, b: Option<R>) -> bool
-    ensures { MatchBool result (Before kind a b) (AtMost kind b a) }
+    ensures { MatchBool result (Before R.kind a b) (AtMost R.kind b a) }
 {
     match (a, b) {
         (None, _) => false,
@@ -52,7 +52,7 @@ fn first_of<R: Reading>(a: Option<R>, b: Option<R>) -> bool
 // Puts what is offered at the item's end, if it comes first.
 fn bring<R: Reading>(item: &Item, offered: Option<R>, next: &mut [Option<R>]) -> bool
     requires ends { item.now.to < length next.old }
-    ensures { MatchBool result (Before kind offered (row_of next.old item.now.to) × (next.new ≡ slice_set next.old item.now.to offered)) (AtMost kind (row_of next.old item.now.to) offered × (next.new ≡ next.old)) }
+    ensures { MatchBool result (Before R.kind offered (row_of next.old item.now.to) × (next.new ≡ slice_set next.old item.now.to offered)) (AtMost R.kind (row_of next.old item.now.to) offered × (next.new ≡ next.old)) }
 {
     if first_of(offered, next[item.to]) {
         next[item.to] = offered;
@@ -65,8 +65,8 @@ fn bring<R: Reading>(item: &Item, offered: Option<R>, next: &mut [Option<R>]) ->
 fn round<R: Reading>(items: &[Item], layer: &[Option<R>], next: &mut [Option<R>]) -> Made
     requires few { length items.now ≤ most_items }
     requires wide { (length layer.now ≡ most_events) × (length next.old ≡ most_events) }
-    requires steppable { Steppable reached (row_of layer.now) }
-    ensures { Passed kind items.now items.now (row_of layer.now) next.new result.causes result.changed }
+    requires steppable { Steppable R.reached (row_of layer.now) }
+    ensures { Passed R.kind items.now items.now (row_of layer.now) next.new result.causes result.changed }
 {
     next.copy_from_slice(layer);
     let mut causes = [None; EVENTS];
@@ -85,7 +85,7 @@ fn round<R: Reading>(items: &[Item], layer: &[Option<R>], next: &mut [Option<R>]
 // Before any round: a reading at the start alone.
 fn open<R: Reading>(start: usize, layer: &mut [Option<R>])
     requires begins { start < length layer.old }
-    ensures { layer.new ≡ slice_set (replicate (length layer.old) None) start (Some kind.first) }
+    ensures { layer.new ≡ slice_set (replicate (length layer.old) None) start (Some R.kind.first) }
 {
     for held in layer.iter_mut() {
         *held = None;
@@ -107,7 +107,7 @@ pub fn search<R: Reading>(
     requires begins { start < most_events }
     requires wide { (length layer.old ≡ most_events) × (length next.old ≡ most_events) }
     requires room { length causes.old ≤ most_rounds }
-    ensures { Sought kind items.now start (length causes.old) result.made result.settled layer.new causes.new result.last }
+    ensures { Sought R.kind items.now start (length causes.old) result.made result.settled layer.new causes.new result.last }
 {
     open(start, layer);
     let mut last = start;

@@ -37,7 +37,7 @@ loop-first-preserved c =
     let path = c.args.path.now in
     let first = c.loop-first.first in
     none_more levels items path first c.loop-first-test.true
-    (subst (λ (ns : List ℕ). Back levels (picked items ns) None) (take_rest path first) c.in-default.ensures) c.loop-first.invariant
+    (subst (λ (ns : List ℕ). Back levels (picked items ns) None) (take_rest path first) c.in_default.ensures) c.loop-first.invariant
 
 pub unreachable-requires : goal.unreachable-requires
 unreachable-requires c =

@@ -1,4 +1,4 @@
-use Rattle.std.proofs.Common.{length, take}
+use Rattle.std.proofs.Common.{take}
 use Rattle.search.specs.Rounds.{row_of, Passed}
 use Rattle.search.proofs.rounds.round.Given as goal
 

@@ -1,4 +1,3 @@
-use Rattle.std.proofs.Common.{◌≡◌, length}
 use Rattle.search.specs.Rounds.{Run}
 use Rattle.search.proofs.rounds.search.Given as goal
 

@@ -4,6 +4,6 @@ use Rattle.text.proofs.put.put_natural.Goals as goal
 
 pub returns : goal.returns
 returns c =
-    let written = c.write-digits-start in
+    let written = c.write_digits-start in
     let bytes = digits_part written.new.buffer _ written.result (omega arith) written.ensures.digits in
-    rw bytes at c.put-bytes.ensures
+    rw bytes at c.put_bytes.ensures

@@ -28,5 +28,5 @@ returns c =
     let n = length-map c.args.rows.now row_of in
     record {
       same = ap (λ (z : ℤ). record { from = 0; to = j; weight = z; code = 2000 + j }) (to_z-of_z w64 r.window.latest f) ∙ sym (nth_late c.args.rows.now c.args.side r (omega arith) c.if-side-eq0.false c.index-rows-event.is);
-      marked = record { begins = omega arith; ends = omega arith; clock = refl; marked = c.is-frame-2.ensures };
+      marked = record { begins = omega arith; ends = omega arith; clock = refl; marked = c.is_frame-2.ensures };
     }

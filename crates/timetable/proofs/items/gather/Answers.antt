@@ -11,8 +11,8 @@ loop-number-preserved c =
     let k = c.loop-number.auto.items in
     let t = c.loop-number-test.true in
     let l = c.requires.long in
-    built_more c.args.period.ticks (map row_of c.args.rows.now) (map gap_of c.args.gaps.now) c.loop-number.items c.loop-number.number c.item-at.result c.loop-number.invariant
-    (omega arith) (omega (arith, length-items c.args.rows.now c.args.gaps.now)) c.item-at.ensures.same c.item-at.ensures.marked
+    built_more c.args.period.ticks (map row_of c.args.rows.now) (map gap_of c.args.gaps.now) c.loop-number.items c.loop-number.number c.item_at.result c.loop-number.invariant
+    (omega arith) (omega (arith, length-items c.args.rows.now c.args.gaps.now)) c.item_at.ensures.same c.item_at.ensures.marked
 
 pub returns : goal.returns
 returns c =

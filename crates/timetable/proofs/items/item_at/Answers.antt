@@ -6,8 +6,8 @@ use Rattle.timetable.specs.Chains.{Item}
 use Rattle.timetable.proofs.Numbered.{gap_ends, nth_gap, nth_edge}
 use Rattle.timetable.proofs.items.item_at.Goals as goal
 
-pub is-frame-requires : goal.is-frame-requires
-is-frame-requires c = (gap_ends (length c.args.rows.now) c.args.gaps.now c.args.number c.index-gaps-number.result c.if-number-gaps.true c.index-gaps-number.is c.requires.joined).1
+pub is_frame-requires : goal.is_frame-requires
+is_frame-requires c = (gap_ends (length c.args.rows.now) c.args.gaps.now c.args.number c.index-gaps-number.result c.if-number-gaps.true c.index-gaps-number.is c.requires.joined).1
 
 pub returns-then-number-gaps : goal.returns-then-number-gaps
 returns-then-number-gaps c =
@@ -22,6 +22,6 @@ returns-then-number-gaps c =
 
 pub returns : goal.returns
 returns c = record {
-  same = c.edge-at.ensures.same ∙ sym (nth_edge c.args.rows.now c.args.gaps.now c.args.number c.if-number-gaps.false);
-  marked = c.edge-at.ensures.marked;
+  same = c.edge_at.ensures.same ∙ sym (nth_edge c.args.rows.now c.args.gaps.now c.args.number c.if-number-gaps.false);
+  marked = c.edge_at.ensures.marked;
 }

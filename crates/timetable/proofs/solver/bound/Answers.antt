@@ -6,7 +6,7 @@ use Rattle.book.specs.Held.{row_of}
 use Rattle.timetable.proofs.Products.{product_few}
 use Rattle.timetable.proofs.Spans.{frames_more, frees_more}
 use Rattle.timetable.proofs.solver.bound.Goals as goal
-use Rattle.timetable.proofs.solver.bound.Goals.{then-is-frame, else-is-frame}
+use Rattle.timetable.proofs.solver.bound.Goals.{then-is_frame, else-is_frame}
 
 pub loop-row-preserved : goal.loop-row-preserved
 loop-row-preserved c =
@@ -17,12 +17,12 @@ loop-row-preserved c =
     let i1 = c.loop-row.invariant.1 in
     let i2 = c.loop-row.invariant.2 in
     let l = c.loop-row-test.true in
-    elim c.if-is-frame.branch [
-      | then-is-frame w ↦
-          let e = sym c.is_frame.ensures ∙ w.if-is-frame.true in
+    elim c.if-is_frame.branch [
+      | then-is_frame w ↦
+          let e = sym c.is_frame.ensures ∙ w.if-is_frame.true in
           (omega (arith, w.frames-is, frames_more rows k r l c.row-item.is true e), omega (arith, w.free-is, frees_more rows k r l c.row-item.is true e), omega (arith, w.frames-is, w.free-is))
-      | else-is-frame w ↦
-          let e = sym c.is_frame.ensures ∙ w.if-is-frame.false in
+      | else-is_frame w ↦
+          let e = sym c.is_frame.ensures ∙ w.if-is_frame.false in
           (omega (arith, w.frames-is, frames_more rows k r l c.row-item.is false e), omega (arith, w.free-is, frees_more rows k r l c.row-item.is false e), omega (arith, w.frames-is, w.free-is))
     ]
 

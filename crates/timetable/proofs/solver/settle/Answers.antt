@@ -20,8 +20,8 @@ search-rounds-requires c =
     let s = c.requires.short in
     record { few = omega arith; begins = omega arith; wide = (refl, refl); room = omega arith }
 
-pub record-loop-requires : goal.record-loop-requires
-record-loop-requires c =
+pub record_loop-requires : goal.record_loop-requires
+record_loop-requires c =
     let p = c.args.period.ticks in
     let b : Book = held p (pos 0) c.args.rows.now c.args.gaps.now in
     let xs = c.gather.new.items in
@@ -42,11 +42,11 @@ record-loop-requires c =
 pub returns-then-not-rounds : goal.returns-then-not-rounds
 returns-then-not-rounds c h =
     let b : Book = held c.args.period.ticks h c.args.rows.now c.args.gaps.now in
-    let k = c.record-loop.auto.path in
+    let k = c.record_loop.auto.path in
     let l = c.requires.long in
     let f = c.requires.full in
-    let s = c.record-loop.ensures.short in
-    refused b c.gather.new.items c.gather.ensures c.args.period.positive c.requires.opens c.record-loop.result.count c.record-loop.result.codes c.record-loop.ensures.recorded (omega arith) c.record-loop.ensures.unkept
+    let s = c.record_loop.ensures.short in
+    refused b c.gather.new.items c.gather.ensures c.args.period.positive c.requires.opens c.record_loop.result.count c.record_loop.result.codes c.record_loop.ensures.recorded (omega arith) c.record_loop.ensures.unkept
 
 pub returns : goal.returns
 returns c h =
@@ -55,6 +55,6 @@ returns c h =
     let r = c.search-rounds.result in
     let sought = subst (λ (t : Bool). Sought carried xs 0 (length c.args.causes.now) r.made t c.search-rounds.new.layer c.search-rounds.new.causes r.last) (not-false r.settled c.if-not-rounds.false) c.search-rounds.ensures in
     let f = c.requires.few.0 in
-    let w = c.times-of.ensures.wide in
+    let w = c.times_of.ensures.wide in
     solved b xs c.gather.ensures c.args.period.positive c.requires.opens (length c.args.causes.now) r.made r.last c.search-rounds.new.layer c.search-rounds.new.causes sought c.requires.full
-    c.times-of.result (omega (arith, length-map c.args.rows.now row_of)) c.times-of.ensures.same
+    c.times_of.result (omega (arith, length-map c.args.rows.now row_of)) c.times_of.ensures.same

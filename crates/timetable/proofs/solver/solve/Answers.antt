@@ -4,5 +4,5 @@ use Rattle.book.specs.Held.{row_of}
 use Rattle.timetable.proofs.Tables.{some_row}
 use Rattle.timetable.proofs.solver.solve.Goals as goal
 
-pub overflow-sub-count : goal.overflow-sub-count
-overflow-sub-count c = omega (arith, some_row (map row_of c.args.rows.now) c.requires.opens, length-map c.args.rows.now row_of)
+pub overflow_sub-count : goal.overflow_sub-count
+overflow_sub-count c = omega (arith, some_row (map row_of c.args.rows.now) c.requires.opens, length-map c.args.rows.now row_of)

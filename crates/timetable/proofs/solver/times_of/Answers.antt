@@ -2,7 +2,7 @@ use Rattle.std.proofs.Common.{◌≡◌, ◌+◌, List, set, ℤ, sym, ap, ◌�
 use Rattle.std.proofs.lemmas.Int.{to_z-of_z}
 use Rattle.timetable.proofs.Copies.{Copied, copied_first, copied_some, copied_none, copied_all}
 use Rattle.timetable.proofs.solver.times_of.Goals as goal
-use Rattle.timetable.proofs.solver.times_of.Goals.{in-Some, in-default}
+use Rattle.timetable.proofs.solver.times_of.Goals.{in-Some, in_default}
 
 pub loop-event-init : goal.loop-event-init
 loop-event-init c = copied_first c.args.layer.now
@@ -16,7 +16,7 @@ loop-event-preserved c =
           let f : SFits w64 w.in-Some.time.0 = search rules in
           subst (λ (t : List ℤ). Copied layer t (k + 1)) (sym (w.times-is ∙ ap (λ (z : ℤ). set c.loop-event.times k z) (to_z-of_z w64 w.in-Some.time.0 f)))
           (copied_some layer c.loop-event.times k c.loop-event.invariant w.in-Some.time.0 c.loop-event-test.true w.in-Some.is)
-      | in-default w ↦ subst (λ (t : List ℤ). Copied layer t (k + 1)) (sym w.times-is) (copied_none layer c.loop-event.times k c.loop-event.invariant w.in-default.is)
+      | in_default w ↦ subst (λ (t : List ℤ). Copied layer t (k + 1)) (sym w.times-is) (copied_none layer c.loop-event.times k c.loop-event.invariant w.in_default.is)
     ]
 
 pub returns : goal.returns

@@ -9,10 +9,10 @@ use Rattle.timetable.proofs.trace.record_loop.Goals as goal
 same_levels : (n : ℕ) (levels known : List ℕ) → take n levels ≡ known → take (n - 0) levels ≡ known
 same_levels n levels known e = let z : n - 0 ≡ n = omega arith in ap (λ (m : ℕ). take m levels) z ∙ e
 
-pub loop-behind-part-requires : goal.loop-behind-part-requires
-loop-behind-part-requires c =
+pub loop_behind-part-requires : goal.loop_behind-part-requires
+loop_behind-part-requires c =
     let items = c.args.items.now in
-    let e = sym (same_levels (length c.args.rows.now) c.levels-of-levels.result (levels_of (map row_of c.args.rows.now)) c.levels-of-levels.ensures) in
+    let e = sym (same_levels (length c.args.rows.now) c.levels_of-levels.result (levels_of (map row_of c.args.rows.now)) c.levels_of-levels.ensures) in
     let s = c.requires.steps in
     record {
       ordered = subst (λ (ls : List ℕ). Ordered ls items) e c.requires.ordered;
@@ -23,24 +23,24 @@ loop-behind-part-requires c =
     }
 
 pub cut-requires : goal.cut-requires
-cut-requires c = let k = c.loop-behind-part.auto.path in let s = c.requires.short in record { known = c.loop-behind-part.ensures.known; inside = c.loop-behind-part.ensures.inside; short = omega arith }
+cut-requires c = let k = c.loop_behind-part.auto.path in let s = c.requires.short in record { known = c.loop_behind-part.ensures.known; inside = c.loop_behind-part.ensures.inside; short = omega arith }
 
 pub returns : goal.returns
 returns c =
     let items = c.args.items.now in
-    let path = c.loop-behind-part.last.path in
-    let part = c.loop-behind-part.result in
+    let path = c.loop_behind-part.last.path in
+    let part = c.loop_behind-part.result in
     let chain = picked items (take part.count (drop part.first path)) in
     let known = levels_of (map row_of c.args.rows.now) in
-    let e = same_levels (length c.args.rows.now) c.levels-of-levels.result known c.levels-of-levels.ensures in
-    let i = c.loop-behind-part.ensures.inside in
+    let e = same_levels (length c.args.rows.now) c.levels_of-levels.result known c.levels_of-levels.ensures in
+    let i = c.loop_behind-part.ensures.inside in
     let n = c.cut.ensures.count in
     record {
       recorded = record {
         chain = chain;
-        reducing = subst (λ (ls : List ℕ). Reducing ls items chain) e c.loop-behind-part.ensures.reducing;
+        reducing = subst (λ (ls : List ℕ). Reducing ls items chain) e c.loop_behind-part.ensures.reducing;
         coded = ap (λ (m : ℕ). take m c.cut.result.codes) n ∙ c.cut.ensures.codes;
       };
       short = omega arith;
-      unkept = subst (λ (ls : List ℕ). (period : ℕ → ℤ) → Periods period → Steps period ls items → (x : ℕ → ℤ) → Keeps period ls items x → ⊥) e c.loop-behind-part.ensures.unkept;
+      unkept = subst (λ (ls : List ℕ). (period : ℕ → ℤ) → Periods period → Steps period ls items → (x : ℕ → ℤ) → Keeps period ls items x → ⊥) e c.loop_behind-part.ensures.unkept;
     }

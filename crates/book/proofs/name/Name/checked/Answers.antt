@@ -5,6 +5,6 @@ use Rattle.book.proofs.name.Name.checked.Goals as goal
 pub returns : goal.returns
 returns c =
     let b = c.args.bytes.now in
-    let h = c.if-not-are-letters.ensures in
-    let e = c.copy-from-slice.ensures.after in
-    (search rules, take-append-le (length b) c.copy-from-slice.new.self _ (omega (arith, ap length e)) ∙ (ap (take (length b)) e ∙ take_all (length b) b (omega arith)))
+    let h = c.if-not-are_letters.ensures in
+    let e = c.copy_from_slice.ensures.after in
+    (search rules, take-append-le (length b) c.copy_from_slice.new.self _ (omega (arith, ap length e)) ∙ (ap (take (length b)) e ∙ take_all (length b) b (omega arith)))

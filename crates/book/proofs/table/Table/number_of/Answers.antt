@@ -5,4 +5,4 @@ use Rattle.book.specs.Held.{row_of}
 use Rattle.book.proofs.table.Table.number_of.Goals as goal
 
 pub returns : goal.returns
-returns c = subst (λ (xs : List HeldRow). Lookup (map row_of xs) c.args.name.now c.named.result) c.as-slice.ensures.value c.named.ensures
+returns c = subst (λ (xs : List HeldRow). Lookup (map row_of xs) c.args.name.now c.named.result) c.as_slice.ensures.value c.named.ensures

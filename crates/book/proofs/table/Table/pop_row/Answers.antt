@@ -11,8 +11,8 @@ pub returns : goal.returns
 returns c =
     ap (with_rows (book_of c.args.self.now)) (ap (map row_of) c.pop.ensures.rest ∙ front_mapped row_of _ _ c.args.self.now.rows.ok.0)
 
-pub invariant-of-self : goal.invariant-of-self
-invariant-of-self c =
+pub invariant_of-self : goal.invariant_of-self
+invariant_of-self c =
     let t = c.args.self.now in
     let framed : opens (map row_of (vec_items c.pop.new.self)) ≡ true = rw (c.pop.ensures.rest, ← take-map) (opens-take (vec_len t.rows - 1) (map row_of (vec_items t.rows)) (omega arith) t.framed_opening) in
     let less : vec_len t.rows - 1 ≡ vec_len c.pop.new.self = search rules in

@@ -9,10 +9,10 @@ use Rattle.book.proofs.table.Table.push_gap.Goals as goal
 
 pub returns : goal.returns
 returns c =
-    ap (with_gaps (book_of c.args.self.now)) (ap (map gap_of) c.push-reserved.ensures.items ∙ map_push gap_of _ _)
+    ap (with_gaps (book_of c.args.self.now)) (ap (map gap_of) c.push_reserved.ensures.items ∙ map_push gap_of _ _)
 
-pub invariant-of-self : goal.invariant-of-self
-invariant-of-self c =
+pub invariant_of-self : goal.invariant_of-self
+invariant_of-self c =
     let t = c.args.self.now in
-    let joined : all_join (vec_len t.rows) (map gap_of (vec_items c.push-reserved.new.self)) ≡ true = ap (λ (xs : List HeldGap). all_join (vec_len t.rows) (map gap_of xs)) c.push-reserved.ensures.items ∙ (ap (all_join (vec_len t.rows)) (map_push gap_of (vec_items t.gaps) c.args.gap) ∙ all_join_push (vec_len t.rows) (map gap_of (vec_items t.gaps)) (gap_of c.args.gap) t.joined c.requires.joins) in
+    let joined : all_join (vec_len t.rows) (map gap_of (vec_items c.push_reserved.new.self)) ≡ true = ap (λ (xs : List HeldGap). all_join (vec_len t.rows) (map gap_of xs)) c.push_reserved.ensures.items ∙ (ap (all_join (vec_len t.rows)) (map_push gap_of (vec_items t.gaps) c.args.gap) ∙ all_join_push (vec_len t.rows) (map gap_of (vec_items t.gaps)) (gap_of c.args.gap) t.joined c.requires.joins) in
     search rules

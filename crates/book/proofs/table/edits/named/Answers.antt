@@ -14,14 +14,14 @@ has n xs = has_name (map row_of xs) n
 at_row : (rows : List HeldRow) (n : List ℕ) (i : ℕ) (r : HeldRow) (b : Bool) → i < length rows → r ≡ get_or rows i r → b ≡ bytes_eq (spelling r.name) n → has n (drop i rows) ≡ (b || has n (drop (i + 1) rows))
 at_row rows n i r b l is t = at_drop_more (has n) rows i r l ∙ ap (λ (x : Bool). x || has n (drop (i + 1) rows)) (ap (λ (x : HeldRow). bytes_eq (spelling x.name) n) (sym is) ∙ sym t)
 
-pub returns-then-same-bytes : goal.returns-then-same-bytes
-returns-then-same-bytes c =
+pub returns-then-same_bytes : goal.returns-then-same_bytes
+returns-then-same_bytes c =
     let rows = c.args.rows.now in
     let n = c.args.name.now in
     let i = c.loop-number.number in
     let r = c.index-rows-number.result in
     let l = c.loop-number-test.true in
-    let e = c.if-same-bytes.ensures ∙ ap (λ (x : List ℕ). bytes_eq x n) c.as-bytes.ensures in
+    let e = c.if-same_bytes.ensures ∙ ap (λ (x : List ℕ). bytes_eq x n) c.as_bytes.ensures in
     record {
       test = sym (sym c.loop-number.invariant ∙ at_row rows n i r true l c.index-rows-number.is e);
       place = (omega (arith, length-map rows row_of), ap (λ (x : Row). x.name) (get_or-map row_of rows i r opening l ∙ ap row_of (sym c.index-rows-number.is)) ∙ (bytes_eq-Decides (spelling r.name) n).0 (sym e));
@@ -29,7 +29,7 @@ returns-then-same-bytes c =
 
 pub loop-number-preserved : goal.loop-number-preserved
 loop-number-preserved c =
-    sym (at_row c.args.rows.now c.args.name.now c.loop-number.number c.index-rows-number.result false c.loop-number-test.true c.index-rows-number.is (c.if-same-bytes.ensures ∙ ap (λ (x : List ℕ). bytes_eq x c.args.name.now) c.as-bytes.ensures)) ∙ c.loop-number.invariant
+    sym (at_row c.args.rows.now c.args.name.now c.loop-number.number c.index-rows-number.result false c.loop-number-test.true c.index-rows-number.is (c.if-same_bytes.ensures ∙ ap (λ (x : List ℕ). bytes_eq x c.args.name.now) c.as_bytes.ensures)) ∙ c.loop-number.invariant
 
 pub returns : goal.returns
 returns c = record { test = sym (at_drop_all (has c.args.name.now) c.args.rows.now c.loop-number.number c.loop-number-test.false) ∙ c.loop-number.invariant; place = tt }

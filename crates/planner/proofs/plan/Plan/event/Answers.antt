@@ -9,12 +9,12 @@ use Rattle.planner.proofs.Answering.{by_grant, by_want, rows_undone}
 use Rattle.planner.proofs.Holds.{rows_many, room_for_row}
 use Rattle.planner.proofs.plan.Plan.event.Goals as goal
 
-pub push-row-requires : goal.push-row-requires
-push-row-requires c =
+pub push_row-requires : goal.push_row-requires
+push_row-requires c =
     let t = c.args.self.now.table in
     let e : SFits w64 c.args.earliest = search rules in
     let l : SFits w64 c.args.latest = search rules in
-    let r = simp to_z-of_z at c.in-ok-row.ensures in
+    let r = simp to_z-of_z at c.in_ok-row.ensures in
     omega (arith, rows_many t, room_for_row (book_of t) c.args.name.now c.args.mark c.args.earliest c.args.latest r.0)
 
 pub returns-in-Ok : goal.returns-in-Ok
@@ -23,11 +23,11 @@ returns-in-Ok c =
     let b = book_of t in
     let e : SFits w64 c.args.earliest = search rules in
     let l : SFits w64 c.args.latest = search rules in
-    let r = simp to_z-of_z at c.in-ok-row.ensures in
+    let r = simp to_z-of_z at c.in_ok-row.ensures in
     record {
-      answer = by_grant b (event c.args.name.now c.args.mark c.args.earliest c.args.latest) (numbered c.len-number.result) (book_of c.push-row.new.self) r.0
+      answer = by_grant b (event c.args.name.now c.args.mark c.args.earliest c.args.latest) (numbered c.len-number.result) (book_of c.push_row.new.self) r.0
           (ap numbered (c.len-number.ensures ∙ sym (rows_many t)))
-          (c.push-row.ensures.book ∙ ap (λ (x : Row). with_rows b (b.rows ++ x ∷ [])) r.1);
+          (c.push_row.ensures.book ∙ ap (λ (x : Row). with_rows b (b.rows ++ x ∷ [])) r.1);
       stays = λ h. absurd (true≢false h);
     }
 
@@ -36,9 +36,9 @@ returns-in-Err c =
     let b = book_of c.args.self.now.table in
     let e : SFits w64 c.args.earliest = search rules in
     let l : SFits w64 c.args.latest = search rules in
-    let r = simp to_z-of_z at c.in-ok-row.ensures in
+    let r = simp to_z-of_z at c.in_ok-row.ensures in
     record {
-      answer = by_want b (event c.args.name.now c.args.mark c.args.earliest c.args.latest) (refused 14) (book_of c.pop-row.new.self) 14 r.0 refl refl
-          (rows_undone b (book_of c.push-row.new.self) (book_of c.pop-row.new.self) (row_of c.in-ok-row.row) c.push-row.ensures.book c.pop-row.ensures);
+      answer = by_want b (event c.args.name.now c.args.mark c.args.earliest c.args.latest) (refused 14) (book_of c.pop_row.new.self) 14 r.0 refl refl
+          (rows_undone b (book_of c.push_row.new.self) (book_of c.pop_row.new.self) (row_of c.in_ok-row.row) c.push_row.ensures.book c.pop_row.ensures);
       stays = λ h. refl;
     }

@@ -9,15 +9,15 @@ use Rattle.planner.proofs.Answering.{by_grant, by_want, gaps_undone}
 use Rattle.planner.proofs.Holds.{rows_many, gaps_many, room_for_gap, known_ends}
 use Rattle.planner.proofs.plan.Plan.gap.Goals as goal
 
-pub push-gap-requires : goal.push-gap-requires
-push-gap-requires c =
+pub push_gap-requires : goal.push_gap-requires
+push_gap-requires c =
     let t = c.args.self.now.table in
     let w : SFits w64 c.args.width = search rules in
-    let g = simp to_z-of_z at c.in-ok-gap.ensures in
+    let g = simp to_z-of_z at c.in_ok-gap.ensures in
     let ends = known_ends (book_of t) c.args.from c.args.to c.args.width g.0 in
     record {
       room = omega (arith, gaps_many t, room_for_gap (book_of t) c.args.from c.args.to c.args.width g.0);
-      joins = ap (λ (n : ℕ). joins n (gap_of c.in-ok-gap.gap)) (sym (rows_many t)) ∙ (ap (joins (length (book_of t).rows)) g.1 ∙ ends);
+      joins = ap (λ (n : ℕ). joins n (gap_of c.in_ok-gap.gap)) (sym (rows_many t)) ∙ (ap (joins (length (book_of t).rows)) g.1 ∙ ends);
     }
 
 pub returns-in-Ok : goal.returns-in-Ok
@@ -25,11 +25,11 @@ returns-in-Ok c =
     let t = c.args.self.now.table in
     let b = book_of t in
     let w : SFits w64 c.args.width = search rules in
-    let g = simp to_z-of_z at c.in-ok-gap.ensures in
+    let g = simp to_z-of_z at c.in_ok-gap.ensures in
     record {
-      answer = by_grant b (gap c.args.from c.args.to c.args.width) (numbered c.len-number.result) (book_of c.push-gap.new.self) g.0
+      answer = by_grant b (gap c.args.from c.args.to c.args.width) (numbered c.len-number.result) (book_of c.push_gap.new.self) g.0
           (ap numbered (c.len-number.ensures ∙ sym (gaps_many t)))
-          (c.push-gap.ensures ∙ ap (λ (x : Gap). with_gaps b (b.gaps ++ x ∷ [])) g.1);
+          (c.push_gap.ensures ∙ ap (λ (x : Gap). with_gaps b (b.gaps ++ x ∷ [])) g.1);
       stays = λ h. absurd (true≢false h);
     }
 
@@ -37,9 +37,9 @@ pub returns-in-Err : goal.returns-in-Err
 returns-in-Err c =
     let b = book_of c.args.self.now.table in
     let w : SFits w64 c.args.width = search rules in
-    let g = simp to_z-of_z at c.in-ok-gap.ensures in
+    let g = simp to_z-of_z at c.in_ok-gap.ensures in
     record {
-      answer = by_want b (gap c.args.from c.args.to c.args.width) (refused 24) (book_of c.pop-gap.new.self) 24 g.0 refl refl
-          (gaps_undone b (book_of c.push-gap.new.self) (book_of c.pop-gap.new.self) (gap_of c.in-ok-gap.gap) c.push-gap.ensures c.pop-gap.ensures);
+      answer = by_want b (gap c.args.from c.args.to c.args.width) (refused 24) (book_of c.pop_gap.new.self) 24 g.0 refl refl
+          (gaps_undone b (book_of c.push_gap.new.self) (book_of c.pop_gap.new.self) (gap_of c.in_ok-gap.gap) c.push_gap.ensures c.pop_gap.ensures);
       stays = λ h. refl;
     }

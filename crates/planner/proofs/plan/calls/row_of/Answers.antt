@@ -14,30 +14,30 @@ returns-then-len-ge-EVENTS c =
     let roomy = le-ltb (length (book_of t).rows) most_events (omega (arith, rows_many t)) in
     rw roomy
 
-pub returns-in-default : goal.returns-in-default
-returns-in-default c =
+pub returns-in_default : goal.returns-in_default
+returns-in_default c =
     let t = c.args.table.now in
     let roomy = lt-ltb (length (book_of t).rows) most_events (omega (arith, rows_many t)) in
-    let named = c.in-default.ensures in
+    let named = c.in_default.ensures in
     rw (roomy, named)
 
-pub returns-then-is-some : goal.returns-then-is-some
-returns-then-is-some c =
+pub returns-then-is_some : goal.returns-then-is_some
+returns-then-is_some c =
     let t = c.args.table.now in
     let roomy = lt-ltb (length (book_of t).rows) most_events (omega (arith, rows_many t)) in
     let named = c.in-Some.ensures.0 in
-    let taken : has_name (book_of t).rows c.args.name.now ≡ true = sym c.number-of.ensures.test ∙ sym c.if-is-some.ensures in
+    let taken : has_name (book_of t).rows c.args.name.now ≡ true = sym c.number_of.ensures.test ∙ sym c.if-is_some.ensures in
     rw (roomy, named, taken)
 
-pub returns-in-default-window-of : goal.returns-in-default-window-of
-returns-in-default-window-of c =
+pub returns-in_default-window_of : goal.returns-in_default-window_of
+returns-in_default-window_of c =
     let t = c.args.table.now in
     let e : SFits w64 c.args.earliest = search rules in
     let l : SFits w64 c.args.latest = search rules in
     let roomy = lt-ltb (length (book_of t).rows) most_events (omega (arith, rows_many t)) in
     let named = c.in-Some.ensures.0 in
-    let taken : has_name (book_of t).rows c.args.name.now ≡ false = sym c.number-of.ensures.test ∙ sym c.if-is-some.ensures in
-    let window = simp to_z-of_z at c.in-default-window-of.ensures in
+    let taken : has_name (book_of t).rows c.args.name.now ≡ false = sym c.number_of.ensures.test ∙ sym c.if-is_some.ensures in
+    let window = simp to_z-of_z at c.in_default-window_of.ensures in
     rw (roomy, named, taken, window)
 
 pub returns : goal.returns
@@ -47,6 +47,6 @@ returns c =
     let l : SFits w64 c.args.latest = search rules in
     let roomy = lt-ltb (length (book_of t).rows) most_events (omega (arith, rows_many t)) in
     let named = c.in-Some.ensures.0 in
-    let taken : has_name (book_of t).rows c.args.name.now ≡ false = sym c.number-of.ensures.test ∙ sym c.if-is-some.ensures in
-    let window = simp to_z-of_z at c.in-Some-window-of.ensures in
+    let taken : has_name (book_of t).rows c.args.name.now ≡ false = sym c.number_of.ensures.test ∙ sym c.if-is_some.ensures in
+    let window = simp to_z-of_z at c.in-Some-window_of.ensures in
     (rw (roomy, named, taken, window.0), same_row c.args.mark _ _ _ _ _ _ c.in-Some.ensures.1 window.1 window.2)

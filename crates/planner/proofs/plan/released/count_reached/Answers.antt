@@ -7,7 +7,7 @@ use Rattle.book.specs.Held.{row_of}
 use Rattle.planner.specs.Closing.{is_reached, all_reached}
 use Rattle.planner.proofs.Counts.{reached_at, reached_past}
 use Rattle.planner.proofs.plan.released.count_reached.Goals as goal
-use Rattle.planner.proofs.plan.released.count_reached.Goals.{then-is-reached, else-is-reached}
+use Rattle.planner.proofs.plan.released.count_reached.Goals.{then-is_reached, else-is_reached}
 
 pub loop-event-preserved : goal.loop-event-preserved
 loop-event-preserved c =
@@ -21,9 +21,9 @@ loop-event-preserved c =
     let at = reached_at c.args.tick rows times n c.index-rows-event.result in
     let i = c.loop-event.invariant.0 in
     let j = c.loop-event.invariant.1 in
-    elim c.if-is-reached.branch [
-      | then-is-reached w ↦ let s = at true t m (sym w.if-is-reached.true ∙ e) in (omega (arith, w.reached-is), omega (arith, w.reached-is))
-      | else-is-reached w ↦ let s = at false t m (sym w.if-is-reached.false ∙ e) in (omega (arith, w.reached-is), omega (arith, w.reached-is))
+    elim c.if-is_reached.branch [
+      | then-is_reached w ↦ let s = at true t m (sym w.if-is_reached.true ∙ e) in (omega (arith, w.reached-is), omega (arith, w.reached-is))
+      | else-is_reached w ↦ let s = at false t m (sym w.if-is_reached.false ∙ e) in (omega (arith, w.reached-is), omega (arith, w.reached-is))
     ]
 
 pub returns : goal.returns

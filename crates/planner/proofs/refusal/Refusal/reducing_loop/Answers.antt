@@ -20,5 +20,5 @@ no_loop GapsFull f g = refl
 no_loop (GapUntimed l) f g = absurd (g l refl)
 no_loop TimeUnknownEvent f g = refl
 
-pub returns-in-default : goal.returns-in-default
-returns-in-default c = ap (λ (n : ℕ). take n c.empty.result.codes) c.empty.ensures ∙ no_loop c.args.self.now c.in-default.not-EventUntimed c.in-default.not-GapUntimed
+pub returns-in_default : goal.returns-in_default
+returns-in_default c = ap (λ (n : ℕ). take n c.empty.result.codes) c.empty.ensures ∙ no_loop c.args.self.now c.in_default.not-EventUntimed c.in_default.not-GapUntimed

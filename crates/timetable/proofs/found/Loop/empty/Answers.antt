@@ -3,5 +3,5 @@ use Rattle.book.specs.Limits.{most_loop}
 use Rattle.timetable.proofs.Blanks.{zero_at}
 use Rattle.timetable.proofs.found.Loop.empty.Goals as goal
 
-pub invariant-of-result : goal.invariant-of-result
-invariant-of-result c = (omega arith, (λ k _. zero_at most_loop k, tt))
+pub invariant_of-result : goal.invariant_of-result
+invariant_of-result c = (omega arith, (λ k _. zero_at most_loop k, tt))

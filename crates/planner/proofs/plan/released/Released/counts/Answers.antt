@@ -6,8 +6,8 @@ use Rattle.planner.specs.Closing.{all_reached}
 use Rattle.planner.specs.Plans.{plan_book}
 use Rattle.planner.proofs.plan.released.Released.counts.Goals as goal
 
-pub count-reached-requires : goal.count-reached-requires
-count-reached-requires c = c.view-view.ensures.many
+pub count_reached-requires : goal.count_reached-requires
+count_reached-requires c = c.view-view.ensures.many
 
 pub returns : goal.returns
 returns c =
@@ -15,8 +15,8 @@ returns c =
     let v = c.view-view.ensures in
     let tick = c.args.tick in
     record {
-      planned_are = c.count-planned.ensures ∙ ap (λ (xs : List HeldRow). frames (drop 1 (map row_of xs))) v.rows;
-      reached_are = c.count-reached.ensures
+      planned_are = c.count_planned.ensures ∙ ap (λ (xs : List HeldRow). frames (drop 1 (map row_of xs))) v.rows;
+      reached_are = c.count_reached.ensures
           ∙ (ap (λ (xs : List HeldRow). all_reached tick (drop 1 (map row_of xs)) (drop 1 c.view-view.result.times.now)) v.rows
           ∙ ap (λ (xs : List ℤ). all_reached tick (drop 1 (plan_book p).rows) (drop 1 xs)) v.times);
     }
