@@ -28,7 +28,7 @@ cut-requires c = let k = c.loop_behind-part.auto.path in let s = c.requires.shor
 pub returns : goal.returns
 returns c =
     let items = c.args.items.now in
-    let path = c.loop_behind-part.last.path in
+    let path = c.loop_behind-part.new.path in
     let part = c.loop_behind-part.result in
     let chain = picked items (take part.count (drop part.first path)) in
     let known = levels_of (map row_of c.args.rows.now) in
