@@ -1,5 +1,5 @@
 -- What the search finds, as the solver's answer.
-use Rattle.std.proofs.Common.{◌≡◌, ℕ, zero, suc, ◌+◌, ◌*◌, ◌<◌, ◌≤◌, Bool, true, false, cond, ◌⊎◌, List, [], ◌∷◌, map, length, get_or, take, ℤ, pos, ◌-ℤ◌, ◌≤ℤ◌, ◌<ℤ◌, Some, None, Option, sym, refl, ap, ◌∙◌, subst, inl, inr, arith}
+use Rattle.std.proofs.Common.{◌≡◌, ℕ, ◌<◌, ◌≤◌, Bool, true, false, cond, ◌⊎◌, List, [], ◌∷◌, map, length, take, ℤ, pos, ◌-ℤ◌, ◌≤ℤ◌, ◌<ℤ◌, Some, Option, sym, refl, ap, ◌∙◌, subst, inl, inr, arith}
 use mathlib.Core.Path.{fun_ext}
 use Rattle.std.specs.List.{ContainsAt as Has, AllByRecursion as All}
 use Rattle.std.proofs.ByRecursion.{all-has, All-weaker, all_has_itself}
@@ -17,10 +17,9 @@ use Rattle.loops.specs.Levels.{level, Periods, Steps, Keeps}
 use Rattle.loops.specs.Loops.{carries, time_at, Reducing}
 use Rattle.loops.specs.Walks.{after}
 use Rattle.loops.proofs.Settled.{beyond, latest, opening_has, led_has, settled_keeps, settled_opens}
-use Rattle.book.specs.Book.{Book, Row, Gap, row, framed, opens, frames, frees}
-use Rattle.book.specs.Limits.{most_events}
-use Rattle.timetable.specs.Timetable.{at, Timetable, Feasible, NoLater, Latest}
-use Rattle.timetable.specs.Chains.{Item, not_after, LeastReading, bound, ReducingLoop}
+use Rattle.book.specs.Book.{Book, Row, Gap, row, framed, opens}
+use Rattle.timetable.specs.Timetable.{at, Timetable, NoLater}
+use Rattle.timetable.specs.Chains.{Item, not_after, LeastReading, bound}
 use Rattle.timetable.specs.Order.{Tightens}
 use Rattle.timetable.specs.Solved.{Solved, Refused}
 use Rattle.timetable.specs.Gathered.{item_of, Gathered, level_of, levels_of, Recorded}

@@ -3,9 +3,9 @@ use Rattle.std.proofs.Common.{◌≡◌, ℕ, zero, suc, ◌+◌, ◌-◌, ◌*�
 use Rattle.std.specs.List.{AllByRecursion as All}
 use Rattle.std.proofs.ByRecursion.{All-push}
 use Rattle.std.proofs.lemmas.Bool.{and_parts, ltb-true}
-use Rattle.std.proofs.lemmas.List.{get_or_append_left, get_or-append-add, length-append, length-map, get_or-map, take_all, take_more, take_more_set, map-append}
+use Rattle.std.proofs.lemmas.List.{get_or_append_left, get_or-append-add, length-append, length-map, take_all, take_more, take_more_set}
 use Rattle.search.specs.declared.item.Item.{Item as Searched}
-use Rattle.book.specs.Book.{Row, Gap, row, framed, is_frame, joins, all_join}
+use Rattle.book.specs.Book.{Row, Gap, joins, all_join}
 use Rattle.book.specs.declared.row.Row.{Row as HeldRow}
 use Rattle.book.specs.declared.row.Gap.{Gap as HeldGap}
 use Rattle.book.specs.Held.{row_of, gap_of}
@@ -13,11 +13,6 @@ use Rattle.timetable.specs.Chains.{Item, gap_items, not_before, not_after, edge_
 use Rattle.timetable.specs.Gathered.{item_of, items_of, no_item, Marked, Gathered}
 
 -- ---- rows and gaps that are held
-
-pub row_read : (rows : List HeldRow) (k : ℕ) (r : HeldRow) → k < length rows → r ≡ get_or rows k r → row (map row_of rows) k ≡ row_of r
-row_read [] k r l e = absurd (omega arith)
-row_read (x ∷ xs) zero r l e = ap row_of (sym e)
-row_read (x ∷ xs) (suc k) r l e = row_read xs k r (omega arith) e
 
 joins_at : (n : ℕ) (gaps : List HeldGap) (k : ℕ) (g : HeldGap) → k < length gaps → g ≡ get_or gaps k g → all_join n (map gap_of gaps) ≡ true → joins n (gap_of g) ≡ true
 joins_at n [] k g l e a = absurd (omega arith)

@@ -1,8 +1,7 @@
 -- The codes of a loop, and the levels of the events, one by one.
-use Rattle.std.proofs.Common.{◌≡◌, ℕ, zero, suc, ◌+◌, ◌-◌, ◌<◌, ◌≤◌, List, [], ◌∷◌, ◌++◌, map, length, get_or, take, drop, set, replicate, sym, refl, ap, ◌∙◌, subst, arith}
-use Rattle.std.specs.List.{AllByRecursion as All}
+use Rattle.std.proofs.Common.{◌≡◌, ℕ, ◌+◌, ◌<◌, ◌≤◌, List, [], ◌∷◌, ◌++◌, map, length, get_or, take, drop, set, replicate, sym, refl, ap, ◌∙◌, arith}
 use Rattle.std.proofs.ByRecursion.{All-drop}
-use Rattle.std.proofs.lemmas.List.{length-set, length-replicate, length-drop, get_or-drop, get_or-set_other, take_more, take_more_set, map-append}
+use Rattle.std.proofs.lemmas.List.{length-set, length-replicate, length-drop, get_or-drop, get_or-set_other, take_more, take_more_set}
 use Rattle.search.specs.declared.item.Item.{Item as Searched}
 use Rattle.loops.specs.Loops.{picked}
 use Rattle.loops.specs.Walks.{Known}

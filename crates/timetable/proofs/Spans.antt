@@ -5,7 +5,7 @@ use Rattle.loops.specs.Levels.{level, ranked, product, room}
 use Rattle.book.specs.declared.row.Row.{Row as HeldRow}
 use Rattle.book.specs.Book.{Row, is_frame, count, frames, frees, opens}
 use Rattle.book.specs.Held.{row_of}
-use Rattle.timetable.specs.Gathered.{level_of, levels_of}
+use Rattle.timetable.specs.Gathered.{levels_of}
 
 frames_push : (rows : List Row) (r : Row) → frames (rows ++ r ∷ []) ≡ frames rows + count (is_frame r.mark)
 frames_push [] r = omega arith

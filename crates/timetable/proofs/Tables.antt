@@ -1,5 +1,5 @@
 -- A book at two levels, and its timetables as times that keep the searched items.
-use Rattle.std.proofs.Common.{◌≡◌, ℕ, zero, suc, ◌+◌, ◌<◌, ◌≤◌, Bool, true, false, cond, ◌⊎◌, List, [], ◌∷◌, ◌++◌, map, length, get_or, drop, ℤ, pos, ◌+ℤ◌, ◌-ℤ◌, ◌*ℤ◌, neg_ℤ, ◌≤ℤ◌, sym, refl, ap, ◌∙◌, subst, inl, inr, arith}
+use Rattle.std.proofs.Common.{◌≡◌, ℕ, zero, suc, ◌+◌, ◌<◌, ◌≤◌, Bool, true, false, cond, List, [], ◌∷◌, ◌++◌, length, drop, ℤ, pos, ◌+ℤ◌, ◌-ℤ◌, ◌≤ℤ◌, sym, refl, ap, ◌∙◌, subst, inl, inr, arith}
 use Rattle.std.specs.List.{ContainsAt as Has, AllByRecursion as All}
 use Rattle.std.proofs.ByRecursion.{all-has, All-weaker, all_has_itself, All-append, has_append_right}
 use Rattle.std.proofs.lemmas.List.{length-map, get_or_past}
@@ -12,7 +12,7 @@ use Rattle.search.specs.Floors.{floor_facts}
 use Rattle.loops.specs.Levels.{level, Ordered, Periods, Steps, Keeps}
 use Rattle.book.specs.Book.{Book, Row, Gap, is_frame, row, framed, opens}
 use Rattle.timetable.specs.Timetable.{at, Timetable}
-use Rattle.timetable.specs.Chains.{Item, gap_items, not_before, not_after, edge_items, items}
+use Rattle.timetable.specs.Chains.{Item, gap_items, not_after, edge_items, items}
 use Rattle.timetable.specs.Gathered.{item_of, Marked, Gathered, level_of, levels_of}
 use Rattle.timetable.proofs.Spans.{top_level}
 use Rattle.timetable.proofs.Transfers.{marked_of, has_to, has_from}

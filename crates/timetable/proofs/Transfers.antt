@@ -1,6 +1,6 @@
 -- What is found along chains of searched items, in the book's own terms.
-use Rattle.std.proofs.Common.{◌≡◌, ℕ, zero, suc, ◌<◌, ◌≤◌, Bool, cond, List, [], ◌∷◌, map, length, get_or, ℤ, pos, ◌+ℤ◌, ◌≤ℤ◌, Some, None, Option, sym, refl, ap, ◌∙◌, subst, arith}
-use Rattle.std.specs.List.{ContainsAt as Has, AllByRecursion as All}
+use Rattle.std.proofs.Common.{◌≡◌, ℕ, zero, suc, Bool, cond, List, [], ◌∷◌, map, length, ℤ, pos, ◌+ℤ◌, Some, None, Option, sym, refl, ap, ◌∙◌, subst, arith}
+use Rattle.std.specs.List.{ContainsAt as Has}
 use Rattle.std.proofs.ByRecursion.{all-has}
 use Rattle.std.proofs.lemmas.List.{length-map}
 use Rattle.std.proofs.lemmas.Int.{ints}
@@ -13,7 +13,7 @@ use Rattle.search.specs.Rounds.{best, Still}
 use Rattle.search.specs.Kept.{carried_laws}
 use Rattle.search.proofs.Layers.{best-least}
 use Rattle.loops.specs.Loops.{carries}
-use Rattle.book.specs.Book.{Book, framed}
+use Rattle.book.specs.Book.{Book}
 use Rattle.timetable.specs.Chains.{Item, items, Leads, step, read, Reads, LeastWithin, LeastReading, SettledAt}
 use Rattle.timetable.specs.Gathered.{item_of, Marked, Gathered}
 

@@ -1,5 +1,5 @@
 -- How the items that are searched stand for those of the book.
-use Rattle.std.specs.Prelude.{◌≡◌, ℕ, ◌<◌, cond, List, [], ◌∷◌, ◌++◌, map, length, take, drop, ℤ, pos}
+use Rattle.std.specs.Prelude.{◌≡◌, ℕ, ◌<◌, cond, List, ◌++◌, map, length, take, drop, ℤ, pos}
 use Rattle.std.specs.List.{AllByRecursion as All}
 use Rattle.search.specs.declared.item.Item.{Item as Searched}
 use Rattle.loops.specs.Loops.{Reducing}

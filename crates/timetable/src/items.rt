@@ -10,13 +10,26 @@ use book::limits::{NOT_AFTER, NOT_BEFORE};
 use book::{Gap, Row};
 use search::{Item, Period};
 
-// Whether the event is a frame event.
-fn is_frame(rows: &[Row], event: usize) -> bool
-    requires { event < length rows.now }
-    ensures { result ≡ is_framed (map row_of rows.now) event }
+/// Whether the event is a frame event. One that is not there is none.
+pub fn is_frame(rows: &[Row], event: usize) -> bool
+    ensures { event < length rows.now → result ≡ is_framed (map row_of rows.now) event }
 {
-    let row = rows[event];
-    row.mark.is_frame()
+    match rows.get(event) {
+        Some(row) => row.mark.is_frame(),
+        None => false,
+    }
+}
+
+/// Whether each gap begins and ends at one of the first so many events.
+pub fn all_join(events: usize, gaps: &[Gap]) -> bool
+    ensures { result ≡ all_join events (map gap_of gaps.now) }
+{
+    for gap in gaps {
+        if gap.from >= events || gap.to >= events {
+            return false;
+        }
+    }
+    true
 }
 
 // The window edge of this number: 0 and 1 are those of event 1, 2 and 3 those of event 2, and so on.
@@ -48,13 +61,12 @@ fn edge_at(period: Period, rows: &[Row], side: usize) -> Item
     }
 }
 
-// The item of this number.
-fn item_at(period: Period, rows: &[Row], gaps: &[Gap], number: usize) -> Item
+/// The item of this number.
+pub fn item_at(period: Period, rows: &[Row], gaps: &[Gap], number: usize) -> Item
     requires few { (length rows.now ≤ most_events) × (length gaps.now ≤ most_gaps) }
-    requires joined { all_join (length rows.now) (map gap_of gaps.now) ≡ true }
     requires known { number < length gaps.now + 2 * (length rows.now - 1) }
     ensures same { item_of result ≡ slice_index_or (items_of (map row_of rows.now) (map gap_of gaps.now)) number no_item }
-    ensures marked { Marked period.ticks (map row_of rows.now) result }
+    ensures marked { all_join (length rows.now) (map gap_of gaps.now) ≡ true → Marked period.ticks (map row_of rows.now) result }
 {
     if number < gaps.len() {
         let gap = gaps[number];
@@ -73,9 +85,8 @@ fn item_at(period: Period, rows: &[Row], gaps: &[Gap], number: usize) -> Item
 /// Writes all items.
 pub fn gather(period: Period, rows: &[Row], gaps: &[Gap], items: &mut [Item])
     requires few { (length rows.now ≤ most_events) × (length gaps.now ≤ most_gaps) }
-    requires joined { all_join (length rows.now) (map gap_of gaps.now) ≡ true }
     requires long { length items.old ≡ length gaps.now + 2 * (length rows.now - 1) }
-    ensures { Gathered period.ticks (map row_of rows.now) (map gap_of gaps.now) items.new }
+    ensures { all_join (length rows.now) (map gap_of gaps.now) ≡ true → Gathered period.ticks (map row_of rows.now) (map gap_of gaps.now) items.new }
 {
     for number in 0..items.len() {
         items[number] = item_at(period, rows, gaps, number);

@@ -1,5 +1,5 @@
 //! The latest timetable of a plan, or a loop that shows that there is none.
-ghost use Rattle.std.specs.Prelude.{◌≡◌, ℕ, ◌+◌, ◌-◌, ◌*◌, ◌<◌, ◌≤◌, true, map, length, ℤ, pos, slice_index_or};
+ghost use Rattle.std.specs.Prelude.{◌≡◌, ℕ, ◌+◌, ◌-◌, ◌*◌, ◌<◌, ◌≤◌, true, ◌&&◌, map, length, ℤ, pos, slice_index_or};
 ghost use Rattle.search.specs.Rounds.{row_of as reading_of};
 ghost use Rattle.loops.specs.Loops.{time_at};
 ghost use Rattle.book.specs.Book.{frames as frames_in, frees as frees_in, opens, all_join};
@@ -8,7 +8,7 @@ ghost use Rattle.book.specs.Limits.{most_events, most_gaps, most_loop};
 ghost use Rattle.timetable.specs.Solved.{Answers};
 
 use crate::found::{Found, Loop};
-use crate::items::gather;
+use crate::items::{all_join, gather, is_frame};
 use crate::trace::record_loop;
 use book::limits::{EVENTS, ITEMS, LOOP};
 use book::{Gap, Row};
@@ -46,6 +46,14 @@ fn times_of(layer: &[Option<CarriedTime>; EVENTS]) -> [i64; EVENTS]
     times
 }
 
+// Whether the opening is a frame event, and each gap begins and ends at an event that is there.
+fn stands(rows: &[Row], gaps: &[Gap]) -> bool
+    requires { 0 < length rows.now }
+    ensures { result ≡ (opens (map row_of rows.now) && all_join (length rows.now) (map gap_of gaps.now)) }
+{
+    is_frame(rows, 0) && all_join(rows.len(), gaps)
+}
+
 // `items`, `causes` and `path` are memory to work in, just as long as the plan needs.
 fn settle(
     period: Period,
@@ -55,20 +63,22 @@ fn settle(
     causes: &mut [Causes],
     path: &mut [u16],
 ) -> Result<Found, Loop>
-    requires few { (length rows.now ≤ most_events) × (length gaps.now ≤ most_gaps) }
-    requires opens { opens (map row_of rows.now) ≡ true }
-    requires joined { all_join (length rows.now) (map gap_of gaps.now) ≡ true }
+    requires rows { (0 < length rows.now) × (length rows.now ≤ most_events) }
+    requires gaps { length gaps.now ≤ most_gaps }
     requires items { length items.old ≡ length gaps.now + 2 * (length rows.now - 1) }
     requires full { length causes.old ≡ frames_in (map row_of rows.now) * (frees_in (map row_of rows.now) + 1) }
     requires long { length path.old ≡ length causes.old }
     requires short { length path.old ≤ most_loop }
-    ensures { (h : ℤ) → Answers (held period.ticks h rows.now gaps.now) result }
+    ensures { opens (map row_of rows.now) ≡ true → all_join (length rows.now) (map gap_of gaps.now) ≡ true → (h : ℤ) → Answers (held period.ticks h rows.now gaps.now) result }
 {
     gather(period, rows, gaps, items);
     let mut layer = [None; EVENTS];
     let mut next = [None; EVENTS];
     let rounds = search::<CarriedTime>(items, 0, &mut layer, &mut next, causes);
     if !rounds.settled {
+        if !stands(rows, gaps) {
+            return Err(Loop::empty());
+        }
         return Err(record_loop(rows, items, causes, rounds.last, path));
     }
     Ok(Found {
@@ -78,12 +88,12 @@ fn settle(
 }
 
 /// The latest timetable and the depth of the plan of these rows and gaps, or a reducing loop where there is no
-/// timetable; the plan's length plays no part. It asks for no heap.
+/// timetable; the plan's length plays no part. This holds of rows whose opening is a frame event, and of gaps that
+/// begin and end at these rows; of others nothing is promised. It asks for no heap.
 pub fn solve(period: Period, rows: &[Row], gaps: &[Gap]) -> Result<Found, Loop>
-    requires few { (length rows.now ≤ most_events) × (length gaps.now ≤ most_gaps) }
-    requires opens { opens (map row_of rows.now) ≡ true }
-    requires joined { all_join (length rows.now) (map gap_of gaps.now) ≡ true }
-    ensures { (h : ℤ) → Answers (held period.ticks h rows.now gaps.now) result }
+    requires rows { (0 < length rows.now) × (length rows.now ≤ most_events) }
+    requires gaps { length gaps.now ≤ most_gaps }
+    ensures { opens (map row_of rows.now) ≡ true → all_join (length rows.now) (map gap_of gaps.now) ≡ true → (h : ℤ) → Answers (held period.ticks h rows.now gaps.now) result }
 {
     let blank = Item {
         from: 0,

@@ -1,8 +1,7 @@
-use Rattle.std.proofs.Common.{◌≡◌, ◌+◌, ◌/◌, map, ℤ, pos, neg_ℤ, sym, refl, ap, ◌∙◌, arith, w64, SFits, rules}
+use Rattle.std.proofs.Common.{◌≡◌, ◌+◌, ◌/◌, ℤ, neg_ℤ, sym, refl, ap, ◌∙◌, arith, w64, SFits, rules}
 use Rattle.std.proofs.lemmas.Int.{to_z-of_z, ints}
 use Rattle.std.proofs.lemmas.List.{length-map}
 use Rattle.book.specs.Held.{row_of}
-use Rattle.timetable.specs.Chains.{Item}
 use Rattle.timetable.proofs.Numbered.{nth_early, nth_late}
 use Rattle.timetable.proofs.items.edge_at.Goals as goal
 
@@ -16,7 +15,7 @@ returns-then-side-eq0 c =
     let n = length-map c.args.rows.now row_of in
     record {
       same = ap (λ (z : ℤ). record { from = j; to = 0; weight = z; code = 1000 + j }) w ∙ sym (nth_early c.args.rows.now c.args.side r (omega arith) c.if-side-eq0.true c.index-rows-event.is);
-      marked = record { begins = omega arith; ends = omega arith; clock = refl; marked = c.is_frame.ensures };
+      marked = record { begins = omega arith; ends = omega arith; clock = refl; marked = c.is_frame.ensures (omega arith) };
     }
 
 pub returns : goal.returns
@@ -28,5 +27,5 @@ returns c =
     let n = length-map c.args.rows.now row_of in
     record {
       same = ap (λ (z : ℤ). record { from = 0; to = j; weight = z; code = 2000 + j }) (to_z-of_z w64 r.window.latest f) ∙ sym (nth_late c.args.rows.now c.args.side r (omega arith) c.if-side-eq0.false c.index-rows-event.is);
-      marked = record { begins = omega arith; ends = omega arith; clock = refl; marked = c.is_frame-2.ensures };
+      marked = record { begins = omega arith; ends = omega arith; clock = refl; marked = c.is_frame-2.ensures (omega arith) };
     }

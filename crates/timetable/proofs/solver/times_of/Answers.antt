@@ -1,4 +1,4 @@
-use Rattle.std.proofs.Common.{◌≡◌, ◌+◌, List, set, ℤ, sym, ap, ◌∙◌, subst, arith, w64, SFits, rules}
+use Rattle.std.proofs.Common.{◌+◌, List, set, ℤ, sym, ap, ◌∙◌, subst, w64, SFits, rules}
 use Rattle.std.proofs.lemmas.Int.{to_z-of_z}
 use Rattle.timetable.proofs.Copies.{Copied, copied_first, copied_some, copied_none, copied_all}
 use Rattle.timetable.proofs.solver.times_of.Goals as goal

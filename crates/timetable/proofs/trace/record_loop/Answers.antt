@@ -1,4 +1,4 @@
-use Rattle.std.proofs.Common.{◌≡◌, ℕ, ◌-◌, ◌≤◌, List, map, length, take, drop, ℤ, sym, ap, ◌∙◌, subst, arith}
+use Rattle.std.proofs.Common.{◌≡◌, ℕ, ◌-◌, List, map, length, take, drop, ℤ, sym, ap, ◌∙◌, subst, arith}
 use Rattle.loops.specs.Levels.{Ordered, Periods, Steps, Keeps, room}
 use Rattle.loops.specs.Loops.{Reducing, picked}
 use Rattle.book.specs.Held.{row_of}
