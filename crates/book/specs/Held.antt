@@ -1,8 +1,9 @@
--- Rows, gaps and a book, from what the code holds of them.
-use Rattle.std.specs.Prelude.{ℕ, List, map, take, ℤ}
+-- What a table holds, as a book.
+use Rattle.std.specs.Prelude.{ℕ, List, map, take, ℤ, vec_items}
 use Rattle.book.specs.declared.name.Name.{Name}
 use Rattle.book.specs.declared.row.Row.{Row as HeldRow}
 use Rattle.book.specs.declared.row.Gap.{Gap as HeldGap}
+use Rattle.book.specs.declared.table.Table.{Table}
 use Rattle.book.specs.Book.{Book, Row, Gap}
 
 abbrev pub spelling : Name → List ℕ
@@ -14,6 +15,9 @@ row_of r = record { name = spelling r.name; mark = r.mark; earliest = r.window.e
 abbrev pub gap_of : HeldGap → Gap
 gap_of g = record { from = g.from; to = g.to; width = g.width }
 
--- the book of this period and length, with these rows and gaps
+abbrev pub book_of : Table → Book
+book_of t = record { period = t.period.ticks; length = t.length; rows = map row_of (vec_items t.rows); gaps = map gap_of (vec_items t.gaps) }
+
+-- the book of this period and length with these rows and gaps, which no table need hold
 abbrev pub held : ℤ → ℤ → List HeldRow → List HeldGap → Book
 held p h rows gaps = record { period = p; length = h; rows = map row_of rows; gaps = map gap_of gaps }

@@ -2,4 +2,3 @@ pub mod Book
 pub mod Held
 pub mod Limits
 pub mod Names
-pub mod Tables

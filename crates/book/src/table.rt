@@ -1,7 +1,5 @@
 //! The rows and gaps of a plan, with room for all that they may come to.
-ghost use Rattle.std.specs.Prelude.{◌≡◌, ◌<◌, ◌≤◌, true, map, pos, ◌≤ℤ◌, vec_len, vec_capacity};
-ghost use Rattle.book.specs.Book.{opens, all_join};
-ghost use Rattle.book.specs.Held.{row_of, gap_of};
+ghost use Rattle.std.specs.Prelude.{◌<◌, ◌≤◌, pos, ◌≤ℤ◌, vec_len, vec_capacity};
 ghost use Rattle.book.specs.Limits.{most_events, most_gaps, most_length};
 
 use crate::row::{Gap, Row};
@@ -16,15 +14,11 @@ pub struct Table {
     pub gaps: Vec<Gap>,
     ghost long: { pos 1 ≤ℤ length },
     ghost short: { length ≤ℤ pos most_length },
-    ghost some_rows: { 0 < vec_len rows },
+    ghost opens: { 0 < vec_len rows },
     ghost few_rows: { vec_len rows ≤ most_events },
     ghost few_gaps: { vec_len gaps ≤ most_gaps },
     ghost room_rows: { most_events ≤ vec_capacity rows },
     ghost room_gaps: { most_gaps ≤ vec_capacity gaps },
-    // The opening is a frame event.
-    ghost framed_opening: { opens (map row_of rows.items) ≡ true },
-    // Each gap begins and ends at one of the rows.
-    ghost joined: { all_join (vec_len rows) (map gap_of gaps.items) ≡ true },
 }
 
 mod edits;

@@ -1,7 +1,7 @@
 -- What a plan holds: its book, and the times of its events by number.
 use Rattle.std.specs.Prelude.{List, length, take, ℤ}
 use Rattle.book.specs.Book.{Book}
-use Rattle.book.specs.Tables.{book_of}
+use Rattle.book.specs.Held.{book_of}
 use Rattle.planner.specs.declared.plan.Plan.{Plan}
 
 abbrev pub plan_book : Plan → Book

@@ -1,9 +1,8 @@
 //! What can be done to a table. Nothing here asks for memory but `fresh`.
 ghost use Rattle.std.specs.Prelude.{◌≡◌, ◌+◌, ◌-◌, ◌<◌, true, false, [], ◌∷◌, ◌++◌, map, length, take, pos, ◌≤ℤ◌, IfOk, vec_len, MatchOption};
 ghost use Rattle.book.specs.Limits.{most_events, most_gaps, most_length};
-ghost use Rattle.book.specs.Book.{opening as opening-row, made, fresh as fresh_book, with_rows, with_gaps, good_window, Lookup, joins, all_join};
-ghost use Rattle.book.specs.Held.{row_of, gap_of};
-ghost use Rattle.book.specs.Tables.{book_of};
+ghost use Rattle.book.specs.Book.{opening as opening_row, made, fresh as fresh_book, with_rows, with_gaps, good_window, Lookup};
+ghost use Rattle.book.specs.Held.{row_of, gap_of, book_of};
 
 use crate::limits::{EVENTS, GAPS};
 use crate::mark::Mark;
@@ -16,7 +15,7 @@ use std::alloc::{AllocError, Global};
 
 // The row of the opening: a frame event whose window counts for nothing.
 fn opening() -> Row
-    ensures { row_of result ≡ opening-row }
+    ensures { row_of result ≡ opening_row }
 {
     Row {
         name: Name::opening(),
@@ -87,19 +86,17 @@ impl Table {
         self.rows.push_reserved(row);
     }
 
-    /// Takes the last row out again, at which no gap may begin or end.
+    /// Takes the last row out again.
     pub fn pop_row(&mut self)
-        requires many { 1 < vec_len self.old.rows }
-        requires loose { all_join (vec_len self.old.rows - 1) (book_of self.old).gaps ≡ true }
+        requires { 1 < vec_len self.old.rows }
         ensures { book_of self.new ≡ with_rows (book_of self.old) (take (length (book_of self.old).rows - 1) (book_of self.old).rows) }
     {
         let _ = self.rows.pop();
     }
 
-    /// Adds a gap behind the others. It has to begin and end at rows that are there.
+    /// Adds a gap behind the others.
     pub fn push_gap(&mut self, gap: Gap)
-        requires room { vec_len self.old.gaps < most_gaps }
-        requires joins { joins (vec_len self.old.rows) (gap_of gap) ≡ true }
+        requires { vec_len self.old.gaps < most_gaps }
         ensures { book_of self.new ≡ with_gaps (book_of self.old) ((book_of self.old).gaps ++ gap_of gap ∷ []) }
     {
         self.gaps.push_reserved(gap);

@@ -2,8 +2,7 @@
 ghost use Rattle.std.specs.Prelude.{◌≡◌, true, false, replicate, pos, is_ok, IfOk, Some, None, MatchResult, slice_index_or};
 ghost use Rattle.book.specs.Limits.{most_events};
 ghost use Rattle.book.specs.Book.{fresh as fresh_book, Lookup};
-ghost use Rattle.book.specs.Held.{row_of, gap_of};
-ghost use Rattle.book.specs.Tables.{book_of};
+ghost use Rattle.book.specs.Held.{row_of, gap_of, book_of};
 ghost use Rattle.planner.specs.Calls.{make as make_call, event as event_call, gap as gap_call, known, failed, ByBook};
 ghost use Rattle.planner.specs.Plans.{plan_book, plan_times};
 ghost use Rattle.planner.specs.Refusals.{number_of, said_plain, said_number};

@@ -2,11 +2,10 @@ use Rattle.std.proofs.Common.{◌≡◌, ℕ, [], ◌∷◌, ◌++◌, sym, refl
 use Rattle.std.proofs.lemmas.Int.{to_z-of_z}
 use Rattle.std.proofs.lemmas.Bool.{true≢false}
 use Rattle.book.specs.Book.{Row, with_rows}
-use Rattle.book.specs.Held.{row_of}
-use Rattle.book.specs.Tables.{book_of}
+use Rattle.book.specs.Held.{row_of, book_of}
 use Rattle.planner.specs.Calls.{event, numbered, refused}
 use Rattle.planner.proofs.Answering.{by_grant, by_want, rows_undone}
-use Rattle.planner.proofs.Holds.{rows_many, room_for_row}
+use Rattle.planner.proofs.Holds.{rows_many, room_for_row, opens_with_row, joined_with_row}
 use Rattle.planner.proofs.plan.Plan.event.Goals as goal
 
 pub push_row-requires : goal.push_row-requires
@@ -41,4 +40,14 @@ returns-in-Err c =
       answer = by_want b (event c.args.name.now c.args.mark c.args.earliest c.args.latest) (refused 14) (book_of c.pop_row.new.self) 14 r.0 refl refl
           (rows_undone b (book_of c.push_row.new.self) (book_of c.pop_row.new.self) (row_of c.in_ok-row.row) c.push_row.ensures.book c.pop_row.ensures);
       stays = λ h. refl;
+    }
+
+pub invariant_of-self : goal.invariant_of-self
+invariant_of-self c =
+    let p = c.args.self.now in
+    let b = book_of p.table in
+    let z = book_of c.push_row.new.self in
+    record {
+      opens = opens_with_row b z (row_of c.in_ok-row.row) c.push_row.ensures.book p.opens;
+      joined = joined_with_row b z (row_of c.in_ok-row.row) c.push_row.ensures.book p.joined;
     }

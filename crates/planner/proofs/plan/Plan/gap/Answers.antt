@@ -1,12 +1,11 @@
-use Rattle.std.proofs.Common.{◌≡◌, ℕ, [], ◌∷◌, ◌++◌, length, sym, refl, ap, ◌∙◌, arith, w64, SFits, rules}
+use Rattle.std.proofs.Common.{◌≡◌, ℕ, true, [], ◌∷◌, ◌++◌, length, sym, refl, ap, ◌∙◌, arith, w64, SFits, rules}
 use Rattle.std.proofs.lemmas.Int.{to_z-of_z}
 use Rattle.std.proofs.lemmas.Bool.{true≢false}
 use Rattle.book.specs.Book.{Gap, with_gaps, joins}
-use Rattle.book.specs.Held.{gap_of}
-use Rattle.book.specs.Tables.{book_of}
+use Rattle.book.specs.Held.{gap_of, book_of}
 use Rattle.planner.specs.Calls.{gap, numbered, refused}
 use Rattle.planner.proofs.Answering.{by_grant, by_want, gaps_undone}
-use Rattle.planner.proofs.Holds.{rows_many, gaps_many, room_for_gap, known_ends}
+use Rattle.planner.proofs.Holds.{gaps_many, room_for_gap, known_ends, opens_with_gap, joined_with_gap}
 use Rattle.planner.proofs.plan.Plan.gap.Goals as goal
 
 pub push_gap-requires : goal.push_gap-requires
@@ -14,11 +13,7 @@ push_gap-requires c =
     let t = c.args.self.now.table in
     let w : SFits w64 c.args.width = search rules in
     let g = simp to_z-of_z at c.in_ok-gap.ensures in
-    let ends = known_ends (book_of t) c.args.from c.args.to c.args.width g.0 in
-    record {
-      room = omega (arith, gaps_many t, room_for_gap (book_of t) c.args.from c.args.to c.args.width g.0);
-      joins = ap (λ (n : ℕ). joins n (gap_of c.in_ok-gap.gap)) (sym (rows_many t)) ∙ (ap (joins (length (book_of t).rows)) g.1 ∙ ends);
-    }
+    omega (arith, gaps_many t, room_for_gap (book_of t) c.args.from c.args.to c.args.width g.0)
 
 pub returns-in-Ok : goal.returns-in-Ok
 returns-in-Ok c =
@@ -42,4 +37,17 @@ returns-in-Err c =
       answer = by_want b (gap c.args.from c.args.to c.args.width) (refused 24) (book_of c.pop_gap.new.self) 24 g.0 refl refl
           (gaps_undone b (book_of c.push_gap.new.self) (book_of c.pop_gap.new.self) (gap_of c.in_ok-gap.gap) c.push_gap.ensures c.pop_gap.ensures);
       stays = λ h. refl;
+    }
+
+pub invariant_of-self : goal.invariant_of-self
+invariant_of-self c =
+    let p = c.args.self.now in
+    let b = book_of p.table in
+    let z = book_of c.push_gap.new.self in
+    let w : SFits w64 c.args.width = search rules in
+    let g = simp to_z-of_z at c.in_ok-gap.ensures in
+    let j : joins (length b.rows) (gap_of c.in_ok-gap.gap) ≡ true = ap (joins (length b.rows)) g.1 ∙ known_ends b c.args.from c.args.to c.args.width g.0 in
+    record {
+      opens = opens_with_gap b z (gap_of c.in_ok-gap.gap) c.push_gap.ensures p.opens;
+      joined = joined_with_gap b z (gap_of c.in_ok-gap.gap) c.push_gap.ensures j p.joined;
     }

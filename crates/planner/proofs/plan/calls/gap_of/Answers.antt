@@ -2,7 +2,7 @@ use Rattle.std.proofs.Common.{◌≡◌, ◌≤◌, true, false, not, ◌&&◌, 
 use Rattle.std.proofs.lemmas.Int.{ints}
 use Rattle.std.proofs.lemmas.Bool.Decides.{nat_tests}
 use Rattle.book.specs.Limits.{most_gaps, most_width}
-use Rattle.book.specs.Tables.{book_of}
+use Rattle.book.specs.Held.{book_of}
 use Rattle.planner.specs.Calls.{known, within}
 use Rattle.planner.proofs.Holds.{rows_many, gaps_many}
 use Rattle.planner.proofs.plan.calls.gap_of.Goals as goal

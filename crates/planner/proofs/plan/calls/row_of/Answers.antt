@@ -3,7 +3,7 @@ use Rattle.std.proofs.lemmas.Int.{to_z-of_z}
 use Rattle.std.proofs.lemmas.Bool.{lt-ltb, le-ltb}
 use Rattle.book.specs.Limits.{most_events}
 use Rattle.book.specs.Book.{has_name}
-use Rattle.book.specs.Tables.{book_of}
+use Rattle.book.specs.Held.{book_of}
 use Rattle.planner.proofs.Answering.{same_row}
 use Rattle.planner.proofs.Holds.{rows_many}
 use Rattle.planner.proofs.plan.calls.row_of.Goals as goal
