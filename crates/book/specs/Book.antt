@@ -1,5 +1,5 @@
 -- A plan as what was asked of it, and nothing else: no times, no solver.
-use Rattle.std.specs.Prelude.{◌≡◌, ℕ, ◌+◌, ◌<◌, Bool, true, false, not, ◌&&◌, ◌||◌, List, [], ◌∷◌, length, get_or, ℤ, pos, is_some, IfSome, codes, Option, int_le, nat_lt, slice_index_or}
+use Rattle.std.specs.Prelude.{◌≡◌, ℕ, ◌+◌, ◌<◌, Bool, true, false, not, ◌&&◌, ◌||◌, List, [], ◌∷◌, length, ℤ, pos, is_some, IfSome, codes, Option, int_le, nat_lt, slice_index_or}
 use Rattle.std.specs.Str.{bytes_eq}
 use Rattle.book.specs.declared.mark.Mark.{Mark}
 use Rattle.book.specs.declared.mark.Mark.TheVariants.{Frame, Free}
@@ -74,7 +74,7 @@ has_name (r ∷ rs) n = bytes_eq r.name n || has_name rs n
 -- a look-up of the name answers r: the number of an event that has it, or nothing where none has
 pub record Lookup (rows : List Row) (n : List ℕ) (r : Option ℕ) : Type 0 where
   pub test : is_some r ≡ has_name rows n
-  pub place : IfSome r (λ i. (i < length rows) × ((get_or rows i opening).name ≡ n))
+  pub place : IfSome r (λ i. (i < length rows) × ((slice_index_or rows i opening).name ≡ n))
 
 abbrev pub good_window : Book → ℤ → ℤ → Bool
 good_window b e l = int_le (pos 0) e && (int_le e l && int_le l b.length)
