@@ -1,8 +1,7 @@
 -- A path as long as there is room has a loop on it, and that loop is reducing.
-use Rattle.std.proofs.Common.{◌≡◌, ℕ, zero, suc, ◌+◌, ◌-◌, ◌<◌, ◌≤◌, ◌⊎◌, List, [], ◌∷◌, length, take, drop, ℤ, pos, ◌+ℤ◌, ◌≤ℤ◌, ◌<ℤ◌, Some, None, Option, sym, refl, ap, ◌∙◌, subst, inl, inr, arith}
-use Rattle.std.specs.List.{ContainsAt as Has, AllByRecursion as All}
+use Rattle.std.proofs.Common.{◌≡◌, ℕ, zero, suc, ◌+◌, ◌-◌, ◌<◌, ◌≤◌, List, [], ◌∷◌, length, take, drop, ℤ, pos, ◌+ℤ◌, ◌<ℤ◌, Some, Option, sym, refl, ap, ◌∙◌, subst, inl, inr, arith}
+use Rattle.std.specs.List.{AllByRecursion}
 use Rattle.std.proofs.ByRecursion.{All-drop}
-use Rattle.std.proofs.lemmas.List.{length-drop}
 use Rattle.std.proofs.lemmas.Int.{ints}
 use Rattle.search.specs.declared.item.Item.{Item}
 use Rattle.search.specs.declared.values.CarriedTime.{CarriedTime}
@@ -14,7 +13,7 @@ use Rattle.search.specs.Kept.{carried_laws}
 use Rattle.search.proofs.Passes.{before_most}
 use Rattle.loops.specs.Levels.{level, room, Ordered, Periods, Steps}
 use Rattle.loops.specs.Loops.{carries, Reducing, picked}
-use Rattle.loops.specs.Walks.{after, Falls, Known, Path, start_of, finish, Closes, Closed, ClosesAt, Found}
+use Rattle.loops.specs.Walks.{after, Falls, Path, start_of, finish, Closes, ClosesAt, Found}
 use Rattle.loops.proofs.Pigeon.{Again, Crowded, crowded}
 use Rattle.loops.proofs.Readings.{facts, multiple_zero, loop_shift}
 use Rattle.loops.proofs.Traces.{keeps_on, falls_leads, falls_take, falls_reads, falls_before}
@@ -42,7 +41,7 @@ crowded_closes levels items u w (i ∷ c) l (inl a) = (0, omega arith, again_clo
 crowded_closes levels items u w (i ∷ c) l (inr b) = let t = crowded_closes levels items i.to w c l.2 b in (suc t.0, omega (arith, t.1), t.2)
 
 module _ (levels : List ℕ) (items : List Item) (o : Ordered levels items) where
-  inside : (u w : ℕ) (c : List Item) → u < length levels → Leads items u c w → All (λ v. v < length levels) (nodes u c)
+  inside : (u w : ℕ) (c : List Item) → u < length levels → Leads items u c w → AllByRecursion (λ v. v < length levels) (nodes u c)
   inside u w [] b l = (b, tt)
   inside u w (i ∷ c) b l = (b, inside i.to w c (o.ends i l.0) l.2)
 
@@ -67,7 +66,7 @@ module _ (levels : List ℕ) (items : List Item) (o : Ordered levels items) wher
     On v t = Multiple (period (level levels v)) t
 
     -- a chain that falls at each item, and comes back to where it began, has lost something
-    loop_falls : (k u : ℕ) (t : ℤ) (c : List Item) (m : ℕ) → m < length c → Falls items k u c → d k u ≡ Some (time t) → On u t → finish u (take (suc m) c) ≡ u → All (λ i. level levels i.to ≤ level levels u) (take (suc m) c) →
+    loop_falls : (k u : ℕ) (t : ℤ) (c : List Item) (m : ℕ) → m < length c → Falls items k u c → d k u ≡ Some (time t) → On u t → finish u (take (suc m) c) ≡ u → AllByRecursion (λ i. level levels i.to ≤ level levels u) (take (suc m) c) →
         carries (pos 0) (take (suc m) c) <ℤ pos 0
     loop_falls k u t c m l g h o e a =
         let loop : List Item = take (suc m) c in
@@ -132,4 +131,4 @@ module _ (levels : List ℕ) (items : List Item) (o : Ordered levels items) wher
             subst (λ (n : ℕ). carries (pos 0) (take n c) <ℤ pos 0) z
             (loop_falls first x here.at c (count - 1) (omega arith) here.falls here.is here.on
             (subst (λ (n : ℕ). finish x (take n c) ≡ x) (sym z) f.closed.ends)
-            (subst (λ (n : ℕ). All (λ i. level levels i.to ≤ level levels x) (take n c)) (sym z) f.closed.under))
+            (subst (λ (n : ℕ). AllByRecursion (λ i. level levels i.to ≤ level levels x) (take n c)) (sym z) f.closed.under))

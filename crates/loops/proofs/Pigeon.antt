@@ -1,8 +1,8 @@
 -- A list of events that begins with one of the top level, and in which none comes again before one of a higher level,
 -- has at most `room` places. Read from its end, such a list drives a counter in mixed bases: digit k is how many events
 -- of level k come before any of a higher level.
-use Rattle.std.proofs.Common.{◌≡◌, ℕ, zero, suc, ◌+◌, ◌*◌, ◌<◌, ◌≤◌, Bool, true, false, cond, ◌&&◌, eqb, leb, ◌⊎◌, List, [], ◌∷◌, length, sym, refl, ap, ◌∙◌, inl, inr, mul-le-mul_right, arith}
-use Rattle.std.specs.List.{AllByRecursion as All}
+use Rattle.std.proofs.Common.{◌≡◌, ℕ, suc, ◌*◌, ◌<◌, ◌≤◌, Bool, true, false, cond, ◌&&◌, eqb, leb, ◌⊎◌, List, [], ◌∷◌, length, ap, ◌∙◌, inl, inr, mul-le-mul_right, arith}
+use Rattle.std.specs.List.{AllByRecursion}
 use Rattle.std.proofs.ByRecursion.{All-weaker}
 use Rattle.std.proofs.lemmas.Bool.{cases_Bool, eqb-true, leb-true, and_parts}
 use Rattle.loops.specs.Levels.{level, ranked, product, room}
@@ -62,19 +62,19 @@ module _ (rank : ℕ → ℕ) (n : ℕ) where
   abbrev Inside : ℕ → ℕ → Type 0
   Inside top v = (v < n) × (rank v ≤ top)
 
-  counted : (top : ℕ) (xs : List ℕ) → Apart rank xs → All (Inside top) xs → length xs ≤ value most (digit xs) (suc top)
+  counted : (top : ℕ) (xs : List ℕ) → Apart rank xs → AllByRecursion (Inside top) xs → length xs ≤ value most (digit xs) (suc top)
   counted top [] g a = omega arith
   counted top (x ∷ xs) g a =
       let ih : length xs ≤ value most (digit xs) (suc top) = counted top xs g.1 a.1 in
       omega (arith, value_more most (digit xs) (digit (x ∷ xs)) (rank x) (digit_le xs) (digit_more x xs a.0.0 g.0) (suc top) (omega arith))
 
-  bounded : (top x : ℕ) (xs : List ℕ) → rank x ≡ top → Apart rank (x ∷ xs) → All (Inside top) (x ∷ xs) → length (x ∷ xs) ≤ most top * product most top
+  bounded : (top x : ℕ) (xs : List ℕ) → rank x ≡ top → Apart rank (x ∷ xs) → AllByRecursion (Inside top) (x ∷ xs) → length (x ∷ xs) ≤ most top * product most top
   bounded top x xs e g a =
       let none : value most (digit (x ∷ xs)) top ≡ 0 = value_none most (digit (x ∷ xs)) top (λ j h. (digit_more x xs a.0.0 g.0).cleared j (omega arith)) in
       omega (arith, counted top (x ∷ xs) g a, mul-le-mul_right (product most top) (digit_le (x ∷ xs) top))
 
 -- more places than there is room for
-pub crowded : (levels : List ℕ) → ((v : ℕ) → level levels v ≤ level levels 0) → (x : ℕ) (xs : List ℕ) → level levels x ≡ level levels 0 → All (λ v. v < length levels) (x ∷ xs) →
+pub crowded : (levels : List ℕ) → ((v : ℕ) → level levels v ≤ level levels 0) → (x : ℕ) (xs : List ℕ) → level levels x ≡ level levels 0 → AllByRecursion (λ v. v < length levels) (x ∷ xs) →
     room levels < length (x ∷ xs) → Crowded (level levels) (x ∷ xs)
 crowded levels top x xs e a l = elim (told (level levels) (x ∷ xs)) [ inr b ↦ b | inl g ↦ absurd (contra g) ]
   where

@@ -1,9 +1,9 @@
 -- What chains carry times to, where each item steps down to the period of its event's level.
-use Rattle.std.proofs.Common.{◌≡◌, ℕ, zero, suc, ◌+◌, ◌*◌, ◌<◌, ◌≤◌, ◌⊎◌, List, [], ◌∷◌, ℤ, pos, ◌+ℤ◌, ◌-ℤ◌, ◌*ℤ◌, ◌≤ℤ◌, ◌<ℤ◌, sym, refl, ap, ◌∙◌, subst, inl, inr, arith}
+use Rattle.std.proofs.Common.{◌≡◌, ℕ, zero, suc, ◌*◌, ◌≤◌, List, [], ◌∷◌, ℤ, pos, ◌+ℤ◌, ◌*ℤ◌, ◌≤ℤ◌, sym, refl, ap, ◌∙◌, subst, inl, inr, arith}
 use lib.IntN.{+ℤ_idl}
 use lib.Signed.{≤ℤ_refl}
 use borrow.Author.Differences.{up, down, product_is}
-use Rattle.std.specs.List.{ContainsAt as Has, AllByRecursion as All}
+use Rattle.std.specs.List.{AllByRecursion}
 use Rattle.std.proofs.lemmas.Int.{ints}
 use Rattle.std.proofs.lemmas.Bool.{cases_lt}
 use Rattle.search.specs.declared.item.Item.{Item}
@@ -60,7 +60,7 @@ module _ (period : ℕ → ℤ) (p : Periods period) where
 
   module _ (levels : List ℕ) (items : List Item) (steps : Steps period levels items) where
     -- a chain that meets nothing above level k moves along with a multiple of that level's period
-    pub shift : (k u w : ℕ) (c : List Item) → Leads items u c w → All (λ i. level levels i.to ≤ k) c → (s g : ℤ) → Multiple (period k) g → carries (s +ℤ g) c ≡ carries s c +ℤ g
+    pub shift : (k u w : ℕ) (c : List Item) → Leads items u c w → AllByRecursion (λ i. level levels i.to ≤ k) c → (s g : ℤ) → Multiple (period k) g → carries (s +ℤ g) c ≡ carries s c +ℤ g
     shift k u w [] l a s g m = refl
     shift k u w (i ∷ c) l a s g m =
         let q = period (level levels i.to) in
@@ -81,7 +81,7 @@ module _ (period : ℕ → ℤ) (p : Periods period) where
         bounds x t i.to w c l.2 (carry i s) (subst (λ (z : ℤ). x i.to ≤ℤ z) (sym (steps i l.0 s)) m)
 
     -- a chain from an event back to it, that meets nothing of a higher level, carries every time of that level alike
-    pub loop_shift : (u : ℕ) (c : List Item) → Leads items u c u → All (λ i. level levels i.to ≤ level levels u) c → (s : ℤ) → Multiple (period (level levels u)) s → carries s c ≡ carries (pos 0) c +ℤ s
+    pub loop_shift : (u : ℕ) (c : List Item) → Leads items u c u → AllByRecursion (λ i. level levels i.to ≤ level levels u) c → (s : ℤ) → Multiple (period (level levels u)) s → carries s c ≡ carries (pos 0) c +ℤ s
     loop_shift u c l a s m = ap (λ (z : ℤ). carries z c) (sym (+ℤ_idl s)) ∙ shift (level levels u) u u c l a (pos 0) s m
 
     -- no times keep a reducing loop

@@ -1,13 +1,13 @@
 -- The first items of a path that lead back to where it begins.
-use Rattle.std.proofs.Common.{◌≡◌, ℕ, zero, suc, ◌+◌, ◌-◌, ◌<◌, ◌≤◌, ◌⊎◌, List, [], ◌∷◌, ◌++◌, length, get_or, take, drop, Some, None, Option, sym, refl, ap, ◌∙◌, subst, inl, inr, arith}
-use Rattle.std.specs.List.{AllByRecursion as All}
+use Rattle.std.proofs.Common.{◌≡◌, ℕ, ◌+◌, ◌<◌, ◌≤◌, List, [], ◌∷◌, ◌++◌, length, get_or, take, drop, sym, refl, ap, ◌∙◌, subst, inl, inr, arith}
+use Rattle.std.specs.List.{AllByRecursion}
 use Rattle.std.proofs.ByRecursion.{All-push, All-drop, All-get_or}
-use Rattle.std.proofs.lemmas.List.{drop_all, drop_more, take_rest, length-drop}
+use Rattle.std.proofs.lemmas.List.{drop_all, drop_more, length-drop}
 use Rattle.std.proofs.lemmas.Bool.{cases_lt}
 use Rattle.search.specs.declared.item.Item.{Item}
 use Rattle.loops.specs.Levels.{level}
 use Rattle.loops.specs.Loops.{picked}
-use Rattle.loops.specs.Walks.{Known, start_of, finish, Closes, Closed, Back, Scanned, ClosesAt, Found}
+use Rattle.loops.specs.Walks.{Known, start_of, finish, Closes, Closed, Scanned, ClosesAt, Found}
 use Rattle.loops.proofs.Picked.{picked_cons, picked-take, picked_more, length-picked}
 
 finish_push : (u : ℕ) (c : List Item) (i : Item) → finish u (c ++ i ∷ []) ≡ i.to
@@ -31,7 +31,7 @@ module _ (levels : List ℕ) (items : List Item) (ns : List ℕ) (known : Known 
     -- the item leads neither back nor too high
     pub scanned_more : Under i → (x ≡ i.to → ⊥) → Scanned levels items ns x (place + 1)
     scanned_more l n = record {
-      under = subst (All Under) (sym (picked_more items ns place i h known is)) (All-push Under (picked items (take place ns)) i s.under l);
+      under = subst (AllByRecursion Under) (sym (picked_more items ns place i h known is)) (All-push Under (picked items (take place ns)) i s.under l);
       rest = λ k. elim (left k) [ inl e ↦ absurd (n e) | inr t ↦ t.1 ];
     }
 
@@ -44,7 +44,7 @@ module _ (levels : List ℕ) (items : List Item) (ns : List ℕ) (known : Known 
           some = omega arith;
           within = omega (arith, length-picked items ns known);
           ends = ap (finish x) t ∙ (finish_push x (picked items (take place ns)) i ∙ e);
-          under = subst (All Under) (sym t) (All-push Under (picked items (take place ns)) i s.under u);
+          under = subst (AllByRecursion Under) (sym t) (All-push Under (picked items (take place ns)) i s.under u);
         }
 
     -- it leads too high

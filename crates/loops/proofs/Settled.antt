@@ -1,6 +1,6 @@
 -- Where a round changes nothing, the times that it leaves keep the items, and come no sooner than any others that do.
-use Rattle.std.proofs.Common.{◌≡◌, ℕ, zero, suc, ◌+◌, ◌<◌, ◌≤◌, ◌⊎◌, List, [], ◌∷◌, length, ℤ, pos, ◌+ℤ◌, ◌-ℤ◌, ◌≤ℤ◌, ◌<ℤ◌, Some, None, Option, sym, refl, ap, ◌∙◌, subst, inl, inr, arith}
-use Rattle.std.specs.List.{ContainsAt as Has, AllByRecursion as All}
+use Rattle.std.proofs.Common.{◌≡◌, ℕ, ◌<◌, ◌≤◌, List, [], ◌∷◌, length, ℤ, pos, ◌+ℤ◌, ◌-ℤ◌, ◌≤ℤ◌, ◌<ℤ◌, Some, None, Option, sym, refl, ap, ◌∙◌, subst, arith}
+use Rattle.std.specs.List.{ContainsAt, AllByRecursion}
 use Rattle.std.proofs.lemmas.Int.{ints, by_lt_z}
 use Rattle.search.specs.declared.item.Item.{Item}
 use Rattle.search.specs.declared.values.CarriedTime.{CarriedTime}
@@ -11,7 +11,7 @@ use Rattle.search.specs.Rounds.{AtMost, lift, Still}
 use Rattle.search.specs.Kept.{carried_laws}
 use Rattle.search.proofs.Layers.{best-least, least_has}
 use Rattle.loops.specs.Levels.{level, Ordered, Periods, Steps, Keeps}
-use Rattle.loops.specs.Loops.{carries, time_at, Reducing}
+use Rattle.loops.specs.Loops.{carries, time_at}
 use Rattle.loops.specs.Walks.{after}
 use Rattle.loops.proofs.Readings.{facts, multiple_zero, bounds, excludes}
 use Rattle.loops.proofs.Traces.{keeps_on, takes}
@@ -66,21 +66,21 @@ module _ (levels : List ℕ) (items : List Item) (o : Ordered levels items) wher
       opening : (t : ℤ) × (d k 0 ≡ Some (time t)) × (t ≤ℤ pos 0)
       opening = at_most_some (d k 0) (pos 0) (keeps_on items 0 0 k (omega arith))
 
-      closed : (i : Item) → Has items i → AtMost carried (d k i.to) (lift carried i (d k i.from))
+      closed : (i : Item) → ContainsAt items i → AtMost carried (d k i.to) (lift carried i (d k i.from))
       closed i h = subst (λ (q : Option CarriedTime). AtMost carried q (lift carried i (d k i.from))) (still i.to) (takes items k i h)
 
       -- where an item leads from a time on, there is a time
-      led : (i : Item) → Has items i → (s : ℤ) → d k i.from ≡ Some (time s) → (t : ℤ) × (d k i.to ≡ Some (time t)) × (t ≤ℤ carry i s)
+      led : (i : Item) → ContainsAt items i → (s : ℤ) → d k i.from ≡ Some (time s) → (t : ℤ) × (d k i.to ≡ Some (time t)) × (t ≤ℤ carry i s)
       led i h s e = at_most_some (d k i.to) (carry i s) (subst (λ (q : Option CarriedTime). AtMost carried (d k i.to) (lift carried i q)) e (closed i h))
 
       pub opening_has : (t : ℤ) × (d k 0 ≡ Some (time t))
       opening_has = (opening.0, opening.1)
 
-      pub led_has : (i : Item) → Has items i → i.from ≡ 0 → (t : ℤ) × (d k i.to ≡ Some (time t))
+      pub led_has : (i : Item) → ContainsAt items i → i.from ≡ 0 → (t : ℤ) × (d k i.to ≡ Some (time t))
       led_has i h e = let t = led i h opening.0 (ap (d k) e ∙ opening.1) in (t.0, t.1)
 
       module _ (all : (v : ℕ) → v < length levels → (t : ℤ) × (d k v ≡ Some (time t))) where
-        kept : (i : Item) → Has items i → (time_at (d k i.to) -ℤ time_at (d k i.from)) ≤ℤ i.weight
+        kept : (i : Item) → ContainsAt items i → (time_at (d k i.to) -ℤ time_at (d k i.from)) ≤ℤ i.weight
         kept i h =
             let a = all i.from (o.begins i h) in
             let b = led i h a.0 a.1 in
@@ -94,7 +94,7 @@ module _ (levels : List ℕ) (items : List Item) (o : Ordered levels items) wher
         pub settled_keeps : Keeps period levels items (λ v. time_at (d k v))
         settled_keeps = record { on_clock = on_clock k; kept = kept }
 
-        under_top : (c : List Item) → All (λ i. level levels i.to ≤ level levels 0) c
+        under_top : (c : List Item) → AllByRecursion (λ i. level levels i.to ≤ level levels 0) c
         under_top [] = tt
         under_top (i ∷ c) = (o.top i.to, under_top c)
 

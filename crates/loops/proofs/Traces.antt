@@ -1,13 +1,13 @@
 -- The way back from a change: each item on it begins at an event that changed a round before.
-use Rattle.std.proofs.Common.{◌≡◌, ℕ, zero, suc, ◌+◌, ◌-◌, ◌<◌, ◌≤◌, true, eqb, ◌⊎◌, List, [], ◌∷◌, ◌++◌, length, get_or, take, drop, set, ℤ, pos, is_some, Some, None, Option, sym, refl, ap, ◌∙◌, subst, inl, inr, arith}
-use Rattle.std.specs.List.{ContainsAt as Has, AllByRecursion as All}
+use Rattle.std.proofs.Common.{◌≡◌, ℕ, zero, suc, ◌+◌, ◌-◌, ◌<◌, ◌≤◌, true, eqb, List, [], ◌∷◌, length, get_or, take, drop, set, ℤ, is_some, Some, None, Option, sym, refl, ap, ◌∙◌, subst, inl, inr, arith}
+use Rattle.std.specs.List.{ContainsAt}
 use Rattle.std.proofs.lemmas.List.{length-set, drop-set, drop_all}
 use Rattle.std.proofs.lemmas.Bool.{cases_lt, cases_eq, cond-false, ne_eqb}
 use Rattle.search.specs.declared.item.Item.{Item}
 use Rattle.search.specs.declared.values.CarriedTime.{CarriedTime}
 use Rattle.search.specs.Chains.{Leads}
 use Rattle.search.specs.Carried.{time, carry, carried}
-use Rattle.search.specs.Rounds.{AtMost, Before, lift, Cause, Why, Last, Run}
+use Rattle.search.specs.Rounds.{AtMost, Before, lift, Cause, Why, Last}
 use Rattle.search.specs.Kept.{carried_laws}
 use Rattle.search.proofs.Passes.{most_refl, most_most, before_or_same, not_before, pass_acc, pass_has}
 use Rattle.loops.specs.Loops.{carries, picked}
@@ -28,7 +28,7 @@ module _ (items : List Item) where
     | inr h ↦ most_most carried_laws (d (suc m) j) (d m j) (d k j) (keeps m j) (keeps_on j k m h)
   ]
 
-  pub takes : (k : ℕ) (i : Item) → Has items i → AtMost carried (d (suc k) i.to) (lift carried i (d k i.from))
+  pub takes : (k : ℕ) (i : Item) → ContainsAt items i → AtMost carried (d (suc k) i.to) (lift carried i (d k i.from))
   takes k i h = pass_has carried_laws (d k) i.to (d k i.to) items i h refl
 
   none_before : (o p : Option CarriedTime) → o ≡ None → Before carried o p → ⊥
@@ -36,7 +36,7 @@ module _ (items : List Item) where
   none_before None (Some y) e b = b
   none_before (Some x) p e b = let z : ◌≡◌ {A = ℕ} 0 1 = cc in omega arith
 
-  cause_has : (k j n : ℕ) (c : Cause carried items (d k) (d (suc k)) j n) → Has items c.item
+  cause_has : (k j n : ℕ) (c : Cause carried items (d k) (d (suc k)) j n) → ContainsAt items c.item
   cause_has k j n c = (n, c.known, c.at)
 
   -- the event where the item of a change begins
@@ -107,7 +107,7 @@ module _ (items : List Item) where
               last = subst (Last carried items 0 k) from (turned k at n c);
               known = subst (Known items) (sym q') (c.known, w.known);
               falls = subst (λ (ns : List ℕ). Falls items k i.from (picked items ns)) (sym q') (subst (Falls items k i.from) (sym r) (
-                subst (Has items) s (cause_has k at n c),
+                subst (ContainsAt items) s (cause_has k at n c),
                 refl,
                 subst (λ (v : ℕ). d (suc k) v ≡ lift carried i (d k i.from)) (sym to) got,
                 subst (λ (v : ℕ). Before carried (d (suc k) v) (d k v)) (sym to) c.fell,

@@ -1,5 +1,5 @@
 -- A call is answered by the book: what is left to show where it is granted, and where it is refused.
-use Rattle.std.proofs.Common.{◌≡◌, ℕ, ◌-◌, List, [], ◌∷◌, ◌++◌, length, take, ℤ, Some, None, Option, sym, refl, ap, ◌∙◌, subst, inl, inr, arith}
+use Rattle.std.proofs.Common.{◌≡◌, ℕ, ◌-◌, List, [], ◌∷◌, ◌++◌, length, take, ℤ, Some, None, Option, sym, ap, ◌∙◌, subst, inl, inr, arith}
 use Rattle.std.proofs.lemmas.List.{length_push, take-append-le, take_all}
 use Rattle.book.specs.declared.mark.Mark.{Mark}
 use Rattle.book.specs.Book.{Book, Row, Gap, with_rows, with_gaps}

@@ -1,8 +1,8 @@
 -- Counting events one by one, from a place on.
-use Rattle.std.proofs.Common.{◌≡◌, ℕ, ◌+◌, ◌<◌, ◌≤◌, Bool, true, false, List, [], ◌∷◌, map, length, get_or, drop, ℤ, pos, sym, refl, ap, ◌∙◌}
+use Rattle.std.proofs.Common.{◌≡◌, ℕ, ◌+◌, ◌<◌, ◌≤◌, Bool, List, ◌∷◌, map, length, get_or, drop, ℤ, pos, sym, ap, ◌∙◌}
 use Rattle.std.proofs.lemmas.List.{at_drop_more, at_drop_all, drop_more}
 use Rattle.book.specs.declared.row.Row.{Row as HeldRow}
-use Rattle.book.specs.Book.{Row, is_frame, count, frames}
+use Rattle.book.specs.Book.{is_frame, count, frames}
 use Rattle.book.specs.Held.{row_of}
 use Rattle.planner.specs.Closing.{is_reached, all_reached}
 

@@ -3,7 +3,7 @@ use Rattle.std.specs.Prelude.{◌≡◌, ℕ, Bool, cond, not, ◌&&◌, ◌⊎�
 use Rattle.book.specs.declared.mark.Mark.{Mark}
 use Rattle.book.specs.Limits.{most_events, most_gaps, most_period, most_length, most_width}
 use Rattle.book.specs.Names.{is_name}
-use Rattle.book.specs.Book.{Book, Row, Gap, made, with_rows, with_gaps, has_name, good_window}
+use Rattle.book.specs.Book.{Book, made, with_rows, with_gaps, has_name, good_window}
 
 pub data Call : Type 0 where
   make : ℤ → ℤ → Call

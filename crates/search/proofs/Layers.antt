@@ -1,7 +1,7 @@
 -- What the rounds hold is the least that chains read.
 use Rattle.std.proofs.Common.{◌≡◌, ℕ, zero, suc, ◌+◌, ◌<◌, ◌≤◌, true, cond, eqb, ◌⊎◌, List, [], ◌∷◌, ◌++◌, length, Some, None, Option, sym, refl, ap, ◌∙◌, subst, inl, inr, ⊎_elim, arith}
 use mathlib.Core.Path.{fun_ext}
-use Rattle.std.specs.List.{ContainsAt as Has}
+use Rattle.std.specs.List.{ContainsAt}
 use Rattle.std.proofs.lemmas.List.{length_push, nil_from_length}
 use Rattle.std.proofs.lemmas.Bool.{cond_both, true≢false, eqb-true, eqb-false}
 use Rattle.search.specs.declared.item.Item.{Item}
@@ -11,7 +11,7 @@ use Rattle.search.specs.Chains.{Leads, read, Reads, LeastOf, Least, LeastEver, S
 use Rattle.search.specs.Rounds.{Before, lift, least, pass, best, Steppable, Still}
 use Rattle.search.proofs.Passes.{has_cons}
 
-leads_push : (items : List Item) (a : ℕ) (c : List Item) (i : Item) → Leads items a c i.from → Has items i → Leads items a (c ++ i ∷ []) i.to
+leads_push : (items : List Item) (a : ℕ) (c : List Item) (i : Item) → Leads items a c i.from → ContainsAt items i → Leads items a (c ++ i ∷ []) i.to
 leads_push items a [] i e h = (h, sym e, refl)
 leads_push items a (x ∷ c) i (hx, fx, l) h = (hx, fx, leads_push items x.to c i l h)
 
@@ -24,7 +24,7 @@ record Final (items : List Item) (a : ℕ) (c : List Item) (b : ℕ) : Type 0 wh
   front : List Item
   last : Item
   is : c ≡ front ++ last ∷ []
-  has : Has items last
+  has : ContainsAt items last
   leads : Leads items a front last.from
   to : last.to ≡ b
 
@@ -43,7 +43,7 @@ record Brings {V : Type 0} (kind : Kind V) (row : ℕ → Option V) (j : ℕ) (v
 
 record Brought {V : Type 0} (kind : Kind V) (items : List Item) (row : ℕ → Option V) (j : ℕ) (v : V) : Type 0 where
   item : Item
-  has : Has items item
+  has : ContainsAt items item
   brings : Brings kind row j v item
 
 some_apart : {V : Type 0} (o : Option V) (v : V) → o ≡ None → o ≡ Some v → ⊥

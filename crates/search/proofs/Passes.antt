@@ -2,13 +2,13 @@
 use Rattle.std.proofs.Common.{◌≡◌, ℕ, zero, suc, ◌+◌, ◌<◌, cond, eqb, ◌⊎◌, List, [], ◌∷◌, ◌++◌, length, get_or, take, set, replicate, Some, None, Option, sym, refl, ap, ◌∙◌, subst, inl, inr, arith}
 use Rattle.std.proofs.lemmas.Bool.{cases_eq, cases_lt, eq-eqb, ne_eqb, cond-true, cond-false, cond_both, true≢false, cases_Bool}
 use Rattle.std.proofs.lemmas.List.{length-set, get_or-set_same, get_or-set_other, take_more, get_or_past, get_or-replicate, length-replicate, get_or_read}
-use Rattle.std.specs.List.{ContainsAt as Has}
+use Rattle.std.specs.List.{ContainsAt}
 use Rattle.search.specs.declared.item.Item.{Item}
 use Rattle.search.specs.Limits.{most_events}
 use Rattle.search.specs.Kinds.{Kind, Laws}
 use Rattle.search.specs.Rounds.{AtMost, Before, lift, least, pass, row_of, Cause, Why, Passed}
 
-pub has_cons : (i : Item) (is : List Item) (x : Item) → Has (i ∷ is) x → (i ≡ x) ⊎ Has is x
+pub has_cons : (i : Item) (is : List Item) (x : Item) → ContainsAt (i ∷ is) x → (i ≡ x) ⊎ ContainsAt is x
 has_cons i is x (zero, l, a) = inl (a x)
 has_cons i is x (suc k, l, a) = inr (k, omega arith, a)
 
@@ -81,7 +81,7 @@ module _ {V : Type 0} {kind : Kind V} {reached : ℕ → V → Type 0} (laws : L
       (cond_both (eqb i.to j) (least kind acc (lift kind i (row i.from))) acc (λ o. AtMost kind o acc) (λ e. least_left acc (lift kind i (row i.from))) (λ e. most_refl acc))
 
   -- nor after what any of the items makes of the row
-  pub pass_has : (row : ℕ → Option V) (j : ℕ) (acc : Option V) (xs : List Item) (i : Item) → Has xs i → i.to ≡ j → AtMost kind (pass kind row j acc xs) (lift kind i (row i.from))
+  pub pass_has : (row : ℕ → Option V) (j : ℕ) (acc : Option V) (xs : List Item) (i : Item) → ContainsAt xs i → i.to ≡ j → AtMost kind (pass kind row j acc xs) (lift kind i (row i.from))
   pass_has row j acc [] i h e = absurd (omega (arith, h.1))
   pass_has row j acc (x ∷ xs) i h e = elim (has_cons x xs i h) [
     | inl s ↦ most_most _ _ (lift kind i (row i.from)) (pass_acc row j (cond (eqb x.to j) (least kind acc (lift kind x (row x.from))) acc) xs)

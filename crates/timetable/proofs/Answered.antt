@@ -1,7 +1,7 @@
 -- What the search finds, as the solver's answer.
 use Rattle.std.proofs.Common.{◌≡◌, ℕ, ◌<◌, ◌≤◌, Bool, true, false, cond, ◌⊎◌, List, [], ◌∷◌, map, length, take, ℤ, pos, ◌-ℤ◌, ◌≤ℤ◌, ◌<ℤ◌, Some, Option, sym, refl, ap, ◌∙◌, subst, inl, inr, arith}
 use mathlib.Core.Path.{fun_ext}
-use Rattle.std.specs.List.{ContainsAt as Has, AllByRecursion as All}
+use Rattle.std.specs.List.{ContainsAt, AllByRecursion}
 use Rattle.std.proofs.ByRecursion.{all-has, All-weaker, all_has_itself}
 use Rattle.std.proofs.lemmas.Simd.{map-map}
 use Rattle.std.proofs.lemmas.List.{length-map, length-take, length-take-le, get_or-take, get_or_past}
@@ -34,7 +34,7 @@ tighter_table old new x g t = record {
   on_clock = λ j l e. subst (λ (p : ℤ). Multiple p (at x j)) g.period (t.on_clock j (inside j l) ((g.rows j l).stays_frame e));
   not_before = λ j p l. let a = (g.rows j l).not_before in let b = t.not_before j p (inside j l) in omega (arith, ints);
   not_after = λ j p l. let a = (g.rows j l).not_after in let b = t.not_after j p (inside j l) in omega (arith, ints);
-  gaps_kept = All-weaker (Has old.gaps) Kept (λ h k. all-has Kept new.gaps h t.gaps_kept (g.gaps h k)) old.gaps (all_has_itself old.gaps);
+  gaps_kept = All-weaker (ContainsAt old.gaps) Kept (λ h k. all-has Kept new.gaps h t.gaps_kept (g.gaps h k)) old.gaps (all_has_itself old.gaps);
 }
   where
     Kept : Gap → Type 0
@@ -125,7 +125,7 @@ module _ (b : Book) (xs : List Searched) (all : Gathered b.period b.rows b.gaps 
   -- ---- there is none
 
   -- a chain that meets nothing above the level of a free event meets no frame event
-  free_chain : (u w : ℕ) (c : List Searched) → found.Leads xs u c w → All (λ i. level levels i.to ≤ 0) c → All (λ (a : Item). framed rows a.to ≡ false) (map item_of c)
+  free_chain : (u w : ℕ) (c : List Searched) → found.Leads xs u c w → AllByRecursion (λ i. level levels i.to ≤ 0) c → AllByRecursion (λ (a : Item). framed rows a.to ≡ false) (map item_of c)
   free_chain u w [] l a = tt
   free_chain u w (i ∷ c) l a = (elim (cases_Bool (framed rows i.to)) [ inl e ↦ absurd (high e) | inr e ↦ e ], free_chain i.to w c l.2 a.1)
     where
@@ -136,15 +136,15 @@ module _ (b : Book) (xs : List Searched) (all : Gathered b.period b.rows b.gaps 
   some_item [] f = absurd (omega (arith, ints))
   some_item (i ∷ c) f = omega arith
 
-  begins : (c : List Searched) (r : Reducing levels xs c) → (framed rows r.start ≡ true) ⊎ All (λ (a : Item). framed rows a.to ≡ false) (map item_of c)
+  begins : (c : List Searched) (r : Reducing levels xs c) → (framed rows r.start ≡ true) ⊎ AllByRecursion (λ (a : Item). framed rows a.to ≡ false) (map item_of c)
   begins [] r = inr tt
   begins (i ∷ c) r = elim (cases_Bool (framed rows r.start)) [ inl e ↦ inl e | inr e ↦ inr (free e) ]
     where
-      free : framed rows r.start ≡ false → All (λ (a : Item). framed rows a.to ≡ false) (map item_of (i ∷ c))
+      free : framed rows r.start ≡ false → AllByRecursion (λ (a : Item). framed rows a.to ≡ false) (map item_of (i ∷ c))
       free e =
           let l : r.start < length rows = subst (λ (v : ℕ). v < length rows) r.leads.1 (marked_of b xs all i r.leads.0).begins in
           let k : level levels r.start ≡ 0 = level_at rows r.start l ∙ ap (λ (t : Bool). cond t 1 0) e in
-          free_chain r.start r.start (i ∷ c) r.leads (subst (λ (m : ℕ). All (λ j. level levels j.to ≤ m) (i ∷ c)) k r.under)
+          free_chain r.start r.start (i ∷ c) r.leads (subst (λ (m : ℕ). AllByRecursion (λ j. level levels j.to ≤ m) (i ∷ c)) k r.under)
 
   pub refused : (count : ℕ) (codes : List ℕ) → Recorded levels xs count codes → count ≤ bound b →
       ((period : ℕ → ℤ) → Periods period → Steps period levels xs → (x : ℕ → ℤ) → Keeps period levels xs x → ⊥) → Refused b (take count codes)

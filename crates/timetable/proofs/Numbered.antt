@@ -1,6 +1,6 @@
 -- The items of a book by their numbers.
 use Rattle.std.proofs.Common.{◌≡◌, ℕ, zero, suc, ◌+◌, ◌-◌, ◌*◌, ◌/◌, ◌%◌, ◌<◌, ◌≤◌, true, List, [], ◌∷◌, ◌++◌, map, length, get_or, take, drop, set, ℤ, sym, refl, ap, ◌∙◌, subst, arith}
-use Rattle.std.specs.List.{AllByRecursion as All}
+use Rattle.std.specs.List.{AllByRecursion}
 use Rattle.std.proofs.ByRecursion.{All-push}
 use Rattle.std.proofs.lemmas.Bool.{and_parts, ltb-true}
 use Rattle.std.proofs.lemmas.List.{get_or_append_left, get_or-append-add, length-append, length-map, take_all, take_more, take_more_set}
@@ -98,7 +98,7 @@ nth_edge rows gaps n l =
 module _ (period : ℤ) (rows : List Row) (gaps : List Gap) where
   pub record Built (xs : List Searched) (k : ℕ) : Type 0 where
     pub same : map item_of (take k xs) ≡ take k (items_of rows gaps)
-    pub good : All (Marked period rows) (take k xs)
+    pub good : AllByRecursion (Marked period rows) (take k xs)
 
   pub built_none : (xs : List Searched) → Built xs 0
   built_none xs = record { same = refl; good = tt }
@@ -112,11 +112,11 @@ module _ (period : ℤ) (rows : List Row) (gaps : List Gap) where
       let t = take_more_set xs k s l in
       record {
         same = ap (map item_of) t ∙ (map_push (take k xs) s ∙ (ap (λ (is : List Item). is ++ item_of s ∷ []) b.same ∙ (ap (λ (i : Item). take k (items_of rows gaps) ++ i ∷ []) e ∙ sym (take_more (items_of rows gaps) k no_item m))));
-        good = subst (All (Marked period rows)) (sym t) (All-push (Marked period rows) (take k xs) s b.good g);
+        good = subst (AllByRecursion (Marked period rows)) (sym t) (All-push (Marked period rows) (take k xs) s b.good g);
       }
 
   pub built_all : (xs : List Searched) (k : ℕ) → Built xs k → length xs ≤ k → length (items_of rows gaps) ≤ k → Gathered period rows gaps xs
   built_all xs k b l m = record {
     same = ap (map item_of) (sym (take_all k xs l)) ∙ (b.same ∙ take_all k (items_of rows gaps) m);
-    good = subst (All (Marked period rows)) (take_all k xs l) b.good;
+    good = subst (AllByRecursion (Marked period rows)) (take_all k xs l) b.good;
   }

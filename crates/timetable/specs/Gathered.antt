@@ -1,6 +1,6 @@
 -- How the items that are searched stand for those of the book.
 use Rattle.std.specs.Prelude.{◌≡◌, ℕ, ◌<◌, cond, List, ◌++◌, map, length, take, drop, ℤ, pos}
-use Rattle.std.specs.List.{AllByRecursion as All}
+use Rattle.std.specs.List.{AllByRecursion}
 use Rattle.search.specs.declared.item.Item.{Item as Searched}
 use Rattle.loops.specs.Loops.{Reducing}
 use Rattle.book.specs.Book.{Row, Gap, is_frame, framed}
@@ -24,7 +24,7 @@ pub record Marked (period : ℤ) (rows : List Row) (i : Searched) : Type 0 where
 
 pub record Gathered (period : ℤ) (rows : List Row) (gaps : List Gap) (xs : List Searched) : Type 0 where
   pub same : map item_of xs ≡ items_of rows gaps
-  pub good : All (Marked period rows) xs
+  pub good : AllByRecursion (Marked period rows) xs
 
 -- the level of an event: 1 on the frame clock, 0 free
 abbrev pub level_of : Row → ℕ

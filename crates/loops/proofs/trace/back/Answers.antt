@@ -1,5 +1,5 @@
-use Rattle.std.proofs.Common.{◌≡◌, ℕ, ◌<◌, ◌≤◌, length, get_or, sym, ◌∙◌, subst, arith}
-use Rattle.std.specs.List.{ContainsAt as Has}
+use Rattle.std.proofs.Common.{ℕ, ◌<◌, ◌≤◌, length, get_or, sym, ◌∙◌, subst, arith}
+use Rattle.std.specs.List.{ContainsAt}
 use Rattle.std.proofs.ByRecursion.{All-get_or, has_get_or}
 use Rattle.loops.specs.Levels.{level}
 use Rattle.loops.specs.Loops.{picked}
@@ -15,7 +15,7 @@ pub bounds-levels-first : goal.bounds-levels-first
 bounds-levels-first c =
     let n = All-get_or (λ (n : ℕ). n < length c.args.items.now) c.args.path.now 0 0 c.requires.some c.requires.known in
     let i = c.index-items-path.result in
-    c.requires.ordered.begins i (subst (Has c.args.items.now) (sym c.index-items-path.is) (has_get_or c.args.items.now (get_or c.args.path.now 0 0) i n))
+    c.requires.ordered.begins i (subst (ContainsAt c.args.items.now) (sym c.index-items-path.is) (has_get_or c.args.items.now (get_or c.args.path.now 0 0) i n))
 
 pub bounds-items-path-in-loop-place : goal.bounds-items-path-in-loop-place
 bounds-items-path-in-loop-place c = All-get_or (λ (n : ℕ). n < length c.args.items.now) c.args.path.now c.loop-place.place 0 c.loop-place-test.true c.requires.known
@@ -31,7 +31,7 @@ pub bounds-levels-item : goal.bounds-levels-item
 bounds-levels-item c =
     let n = All-get_or (λ (n : ℕ). n < length c.args.items.now) c.args.path.now c.loop-place.place 0 c.loop-place-test.true c.requires.known in
     let i = c.index-items-path-in-loop-place.result in
-    c.requires.ordered.ends i (subst (Has c.args.items.now) (sym c.index-items-path-in-loop-place.is) (has_get_or c.args.items.now (get_or c.args.path.now c.loop-place.place 0) i n))
+    c.requires.ordered.ends i (subst (ContainsAt c.args.items.now) (sym c.index-items-path-in-loop-place.is) (has_get_or c.args.items.now (get_or c.args.path.now c.loop-place.place 0) i n))
 
 pub loop-place-init : goal.loop-place-init
 loop-place-init c = scanned_none c.args.levels.now c.args.items.now c.args.path.now c.requires.known (start_of (picked c.args.items.now c.args.path.now))

@@ -1,5 +1,5 @@
-use Rattle.std.proofs.Common.{◌≡◌, ℕ, ◌-◌, ◌<◌, List, length, take, drop, Some, None, sym, ap, subst, arith}
-use Rattle.std.specs.List.{AllByRecursion as All}
+use Rattle.std.proofs.Common.{ℕ, ◌<◌, List, length, Some, None, sym, ap, subst, arith}
+use Rattle.std.specs.List.{AllByRecursion}
 use Rattle.std.proofs.ByRecursion.{All-drop}
 use Rattle.std.proofs.lemmas.List.{take_rest, length-drop}
 use Rattle.loops.specs.Loops.{picked}
@@ -17,7 +17,7 @@ back-requires c =
     let t = c.loop-first-test.true in
     record {
       some = omega (arith, ap length e, length-drop first path);
-      known = subst (All (λ (n : ℕ). n < length items)) (sym e) (All-drop (λ (n : ℕ). n < length items) first path c.requires.falls.known);
+      known = subst (AllByRecursion (λ (n : ℕ). n < length items)) (sym e) (All-drop (λ (n : ℕ). n < length items) first path c.requires.falls.known);
       ordered = c.requires.ordered;
     }
 

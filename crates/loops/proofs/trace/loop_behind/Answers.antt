@@ -1,4 +1,4 @@
-use Rattle.std.proofs.Common.{ℕ, ◌+◌, ◌<◌, ◌≤◌, take, drop, ℤ, arith}
+use Rattle.std.proofs.Common.{take, drop}
 use Rattle.loops.proofs.Cuts.{reduces}
 use Rattle.loops.proofs.Readings.{excludes}
 use Rattle.loops.specs.Loops.{Reducing, picked}

@@ -1,4 +1,4 @@
-use Rattle.std.proofs.Common.{◌≡◌, ℕ, ◌-◌, ◌<◌, ◌≤◌, [], length, get_or, None, sym, ◌∙◌, arith}
+use Rattle.std.proofs.Common.{◌-◌, [], length, get_or, None, arith}
 use Rattle.loops.proofs.Traces.{walk_start, walk_from, walk_some, walk_known, walk_next, walk_end}
 use Rattle.loops.proofs.trace.walk.Goals as goal
 

@@ -1,4 +1,4 @@
-use Rattle.std.proofs.Common.{◌≡◌, map, ap, ◌∙◌}
+use Rattle.std.proofs.Common.{map, ap, ◌∙◌}
 use Rattle.book.specs.Book.{with_gaps}
 use Rattle.book.specs.Held.{gap_of, book_of}
 use Rattle.book.proofs.Fronts.{front_mapped}

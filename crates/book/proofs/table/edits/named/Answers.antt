@@ -3,7 +3,7 @@ use Rattle.std.specs.Str.{bytes_eq}
 use Rattle.std.proofs.lemmas.Slice.Eq.{bytes_eq-Decides}
 use Rattle.std.proofs.lemmas.List.{at_drop_all, at_drop_more, get_or-map, length-map}
 use Rattle.book.specs.declared.row.Row.{Row as HeldRow}
-use Rattle.book.specs.Book.{Row, opening, has_name, Lookup}
+use Rattle.book.specs.Book.{Row, opening, has_name}
 use Rattle.book.specs.Held.{spelling, row_of}
 use Rattle.book.proofs.table.edits.named.Goals as goal
 

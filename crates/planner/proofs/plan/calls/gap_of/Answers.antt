@@ -1,4 +1,4 @@
-use Rattle.std.proofs.Common.{◌≡◌, ◌≤◌, true, false, not, ◌&&◌, eqb, ltb, length, pos, neg_ℤ, arith, rules}
+use Rattle.std.proofs.Common.{◌≡◌, true, false, not, ◌&&◌, eqb, ltb, length, pos, neg_ℤ, arith, rules}
 use Rattle.std.proofs.lemmas.Int.{ints}
 use Rattle.std.proofs.lemmas.Bool.Decides.{nat_tests}
 use Rattle.book.specs.Limits.{most_gaps, most_width}

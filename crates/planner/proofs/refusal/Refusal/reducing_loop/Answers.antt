@@ -1,4 +1,4 @@
-use Rattle.std.proofs.Common.{◌≡◌, ℕ, List, [], take, sym, refl, ap, ◌∙◌}
+use Rattle.std.proofs.Common.{◌≡◌, ℕ, [], take, refl, ap, ◌∙◌}
 use Rattle.timetable.specs.declared.found.Loop.{Loop}
 use Rattle.planner.specs.declared.refusal.Refusal.{Refusal}
 use Rattle.planner.specs.declared.refusal.Refusal.TheVariants.{PeriodRange, LengthRange, EventsFull, NameForm, NameTaken, EventWindow, EventUntimed, GapUnknownEvent, GapSameEvent, GapWidth, GapsFull, GapUntimed, TimeUnknownEvent}

@@ -1,4 +1,4 @@
-use Rattle.std.proofs.Common.{◌≡◌, List, map, drop, ℤ, ap, ◌∙◌}
+use Rattle.std.proofs.Common.{List, map, drop, ℤ, ap, ◌∙◌}
 use Rattle.book.specs.declared.row.Row.{Row as HeldRow}
 use Rattle.book.specs.Book.{frames}
 use Rattle.book.specs.Held.{row_of}
