@@ -3,7 +3,7 @@ use Rattle.std.specs.Prelude.{◌≡◌, ℕ, ◌+◌, ◌≤◌, Bool, true, fa
 use Rattle.std.proofs.Common.{sym, ap, arith}
 use Rattle.std.proofs.lemmas.Bool.{ltb-true, ltb-false}
 use Rattle.search.specs.Kinds.{Laws}
-use Rattle.search.specs.Ties.{gaps, counted, FewGaps, framed, framing, either_way}
+use Rattle.search.specs.Ties.{gaps, counted, FewGaps, framed, framing, EitherWay}
 
 no_fewer : (x y : ℕ) → x ≤ y → nat_lt y x ≡ false
 no_fewer x y h = grind arith
@@ -46,7 +46,7 @@ keeps : (b u v : Bool) → (v && not u) ≡ false → ((b || v) && not (b || u))
 keeps true u v h = refl
 keeps false u v h = h
 
-pub framing_laws : Laws framing either_way
+pub framing_laws : Laws framing EitherWay
 framing_laws = record {
   same = λ v. one_way v.0;
   trans = λ u v w h k. after u.0 v.0 w.0 h k;

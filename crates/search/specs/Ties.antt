@@ -22,5 +22,5 @@ framed b = record { 0 = b }
 abbrev pub framing : Kind Framed
 framing = record { before = λ a b. a.0 && not b.0; stepped = λ i v. framed (i.framed || v.0); first = framed false }
 
-abbrev pub either_way : ℕ → Framed → Type 0
-either_way k v = Unit {0}
+abbrev pub EitherWay : ℕ → Framed → Type 0
+EitherWay k v = Unit {0}

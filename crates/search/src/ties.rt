@@ -1,5 +1,5 @@
 //! The kinds of reading that say how two events are tied. They are read over items that are gaps.
-ghost use Rattle.search.specs.Ties.{counted, FewGaps, framing, either_way};
+ghost use Rattle.search.specs.Ties.{counted, FewGaps, framing, EitherWay};
 ghost use Rattle.search.specs.Tied.{counted_laws, framing_laws};
 
 use crate::item::Item;
@@ -31,7 +31,7 @@ impl Reading for GapCount {
 impl Reading for Framed {
     ghost kind = { framing };
 
-    ghost reached = { either_way };
+    ghost reached = { EitherWay };
 
     ghost lawful = { framing_laws };
 

@@ -8,8 +8,8 @@ split_cut s [] rest h = rw (eq-eqb s s refl)
 split_cut s (x ∷ xs) rest h = rw (ne_eqb x s h.0, split_cut s xs rest h.1)
 
 -- one field, and the last field
-pub fields-step : (bs field rest : List ℕ) → Cut 44 bs field rest → fields bs ≡ field ∷ fields rest
-fields-step bs field rest h = rw h.whole (split_cut 44 field rest h.lacks)
+pub fields_step : (bs field rest : List ℕ) → Cut 44 bs field rest → fields bs ≡ field ∷ fields rest
+fields_step bs field rest h = rw h.whole (split_cut 44 field rest h.lacks)
 
 pub split_none : (s : ℕ) (xs : List ℕ) → Lacks s xs → split s xs ≡ xs ∷ []
 split_none s [] h = refl

@@ -1,7 +1,7 @@
 use Rattle.std.proofs.Common.{◌+◌, ◌<◌, length, refl, arith}
 use Rattle.std.proofs.lemmas.List.{take_rest, length-drop}
 use Rattle.text.proofs.LineLaws.{cut_front, lacks_all}
-use Rattle.text.proofs.FieldLaws.{fields-step, split_none}
+use Rattle.text.proofs.FieldLaws.{fields_step, split_none}
 use Rattle.text.proofs.fields.first_field.Goals as goal
 
 pub returns-then-n-line : goal.returns-then-n-line
@@ -16,6 +16,6 @@ returns c =
     let n = c.find-n.result in
     let inside : n < length xs = omega arith in
     record {
-      parts = rw (take_rest xs (n + 1)) (fields-step _ _ _ (cut_front 44 xs n inside c.find-n.ensures.before (c.find-n.ensures.found inside)));
+      parts = rw (take_rest xs (n + 1)) (fields_step _ _ _ (cut_front 44 xs n inside c.find-n.ensures.before (c.find-n.ensures.found inside)));
       shorter = rw (take_rest xs (n + 1), length-drop (n + 1) xs) (omega arith);
     }
