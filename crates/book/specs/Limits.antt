@@ -1,9 +1,9 @@
 -- The limits of a plan; src/limits.rt has the same numbers for the code.
 use Rattle.std.specs.Prelude.{ℕ}
-use Rattle.search.specs.Limits as search
+use Rattle.search.specs.Limits as limits
 
 abbrev pub most_events : ℕ
-most_events = search.most_events
+most_events = limits.most_events
 
 abbrev pub most_gaps : ℕ
 most_gaps = 400

@@ -10,6 +10,7 @@ use anyhow::anyhow;
 use plantext::limits::{PRINT, TEXT};
 use run::{Printed, Trouble, run};
 use std::io::{Read, Write};
+use std::process::ExitCode;
 
 // Standard input, up to one byte more than a text may have.
 fn read_input(rt: &HostRuntime) -> anyhow::Result<Vec<u8>> {
@@ -34,9 +35,9 @@ fn answer(rt: &HostRuntime) -> anyhow::Result<Printed> {
     Ok(printed)
 }
 
-fn main(rt: HostRuntime) -> anyhow::Result<()> {
+fn main(rt: HostRuntime) -> anyhow::Result<ExitCode> {
     match answer(&rt)? {
-        Printed::Timetable(_) => Ok(()),
-        Printed::Fault(_) => Err(anyhow!("the text has a fault")),
+        Printed::Timetable(_) => Ok(ExitCode::SUCCESS),
+        Printed::Fault(_) => Ok(ExitCode::FAILURE),
     }
 }

@@ -39,7 +39,7 @@ fn row_of(
     earliest: i64,
     latest: i64,
 ) -> Result<Row, Refusal>
-    ensures { MatchResult result (λ x. (failed (book_of table.now) (event_call name.entry.now mark earliest latest) ≡ None) × (row_of x ≡ record { name = name.entry.now; mark = mark; earliest = earliest; latest = latest })) (λ e. failed (book_of table.now) (event_call name.entry.now mark earliest latest) ≡ Some (number_of e)) }
+    ensures { MatchResult result (λ x. (failed (book_of table.now) (event_call name.now mark earliest latest) ≡ None) × (row_of x ≡ record { name = name.now; mark = mark; earliest = earliest; latest = latest })) (λ e. failed (book_of table.now) (event_call name.now mark earliest latest) ≡ Some (number_of e)) }
 {
     if table.rows.len() >= EVENTS {
         return Err(Refusal::EventsFull);
