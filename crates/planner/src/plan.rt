@@ -11,7 +11,7 @@ pub struct Plan {
     table: Table,
     found: Found,
     // The opening is a frame event.
-    ghost opens: { opens (book_of table).rows ≡ true },
+    ghost framed_opening: { opens (book_of table).rows ≡ true },
     // Each gap begins and ends at one of the events.
     ghost joined: { all_join (length (book_of table).rows) (book_of table).gaps ≡ true },
 }

@@ -48,6 +48,6 @@ invariant_of-self c =
     let b = book_of p.table in
     let z = book_of c.push_row.new.self in
     record {
-      opens = opens_with_row b z (row_of c.in_ok-row.row) c.push_row.ensures.book p.opens;
+      framed_opening = opens_with_row b z (row_of c.in_ok-row.row) c.push_row.ensures.book p.framed_opening;
       joined = joined_with_row b z (row_of c.in_ok-row.row) c.push_row.ensures.book p.joined;
     }

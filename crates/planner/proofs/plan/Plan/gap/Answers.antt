@@ -48,6 +48,6 @@ invariant_of-self c =
     let g = simp to_z-of_z at c.in_ok-gap.ensures in
     let j : joins (length b.rows) (gap_of c.in_ok-gap.gap) ≡ true = ap (joins (length b.rows)) g.1 ∙ known_ends b c.args.from c.args.to c.args.width g.0 in
     record {
-      opens = opens_with_gap b z (gap_of c.in_ok-gap.gap) c.push_gap.ensures p.opens;
+      framed_opening = opens_with_gap b z (gap_of c.in_ok-gap.gap) c.push_gap.ensures p.framed_opening;
       joined = joined_with_gap b z (gap_of c.in_ok-gap.gap) c.push_gap.ensures j p.joined;
     }
