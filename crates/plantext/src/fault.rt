@@ -1,46 +1,22 @@
 //! Why a text is not loaded.
 ghost use Rattle.std.specs.Prelude.{◌≡◌};
-ghost use Rattle.plantext.specs.Faults.{text_number, layer_of, number_of};
+ghost use Rattle.plantext.specs.Faults.{layer_of, number_of};
 ghost use Rattle.plantext.specs.declared.fault.Cause.TheVariants.{Text, Plan};
 ghost use Rattle.plantext.specs.declared.fault.LoadError.TheVariants.{Fault as Faulty, Memory};
 
 use planner::Refusal;
 use std::alloc::AllocError;
 
-/// What is wrong with the text itself.
-#[derive(Clone, Copy)]
+/// What is wrong with the text itself. Each case has the number by which the rules call it.
+#[derive(Clone, Copy, Debug, PartialEq, Eq)]
 pub enum TextFault {
-    TooLong,
-    Unended,
-    FirstWord,
-    FieldCount,
-    BadNumber,
-    UnknownName,
-    MarkWord,
-}
-
-impl TextFault {
-    // The number by which the rules call it.
-    fn number(self) -> u16
-        ensures { result ≡ text_number self }
-    {
-        match self {
-            TextFault::TooLong => 70,
-            TextFault::Unended => 71,
-            TextFault::FirstWord => 72,
-            TextFault::FieldCount => 73,
-            TextFault::BadNumber => 74,
-            TextFault::UnknownName => 75,
-            TextFault::MarkWord => 76,
-        }
-    }
-}
-
-/// What is wrong with the text of a line, in the field counted from 1, or 0 where it is no single field.
-#[derive(Clone, Copy)]
-pub struct Misread {
-    pub field: usize,
-    pub fault: TextFault,
+    TooLong = 70,
+    Unended = 71,
+    FirstWord = 72,
+    FieldCount = 73,
+    BadNumber = 74,
+    UnknownName = 75,
+    MarkWord = 76,
 }
 
 /// The first cause, from the text or from the plan's call, as it came.
@@ -52,6 +28,7 @@ pub enum Cause {
 
 impl Cause {
     /// 1 for the text, 2 for the plan.
+    // Numbers, since they are printed and the rules fix them; so is the next.
     pub fn layer(&self) -> u16
         ensures { result ≡ layer_of self.now }
     {
@@ -66,7 +43,7 @@ impl Cause {
         ensures { result ≡ number_of self.now }
     {
         match self {
-            Cause::Text(fault) => fault.number(),
+            Cause::Text(fault) => *fault as u16,
             Cause::Plan(refusal) => refusal.number(),
         }
     }
@@ -79,13 +56,25 @@ pub struct LineFault {
     pub cause: Cause,
 }
 
-impl From<Misread> for LineFault {
-    ghost from_gives = { λ m r. r ≡ record { field = m.field; cause = Text m.fault } };
-
-    fn from(misread: Misread) -> LineFault {
+impl LineFault {
+    /// What is wrong with the text of this field, counted from 1, or, at 0, of the line or of the whole text.
+    pub fn text(field: usize, fault: TextFault) -> LineFault
+        ensures { result ≡ record { field = field; cause = Text fault } }
+    {
         LineFault {
-            field: misread.field,
-            cause: Cause::Text(misread.fault),
+            field,
+            cause: Cause::Text(fault),
+        }
+    }
+
+    /// The same as the fault of this line, counted from 1, or, at 0, of none.
+    pub fn on_line(self, line: usize) -> Fault
+        ensures { result ≡ record { line = line; field = self.field; cause = self.cause } }
+    {
+        Fault {
+            line,
+            field: self.field,
+            cause: self.cause,
         }
     }
 }

@@ -1,7 +1,7 @@
 //! What a line says.
-use crate::fault::{Misread, TextFault};
-use book::{Mark, same_bytes};
-use text::{first_field, four, read_number, three, two};
+use crate::fault::{LineFault, TextFault};
+use book::Mark;
+use text::{Fields, exactly, first_field, read_number};
 
 /// A line that is well formed; its names are not looked up yet.
 #[derive(Clone, Copy)]
@@ -23,42 +23,34 @@ pub enum Line<'a> {
     },
 }
 
-fn misread(field: usize, fault: TextFault) -> Misread {
-    Misread { field, fault }
+// A line has other than so many fields.
+fn field_count() -> LineFault {
+    LineFault::text(0, TextFault::FieldCount)
 }
 
 // The number that stands in this field.
-fn number_in(text: &[u8], field: usize) -> Result<i64, Misread> {
-    match read_number(text) {
-        Some(value) => Ok(value),
-        None => Err(misread(field, TextFault::BadNumber)),
-    }
+fn number_in(text: &[u8], field: usize) -> Result<i64, LineFault> {
+    read_number(text).ok_or(LineFault::text(field, TextFault::BadNumber))
 }
 
 // The mark that stands in this field.
-fn mark_in(text: &[u8], field: usize) -> Result<Mark, Misread> {
-    if same_bytes(text, b"frame") {
-        return Ok(Mark::Frame);
+fn mark_in(text: &[u8], field: usize) -> Result<Mark, LineFault> {
+    match text {
+        b"frame" => Ok(Mark::Frame),
+        b"free" => Ok(Mark::Free),
+        _ => Err(LineFault::text(field, TextFault::MarkWord)),
     }
-    if same_bytes(text, b"free") {
-        return Ok(Mark::Free);
-    }
-    Err(misread(field, TextFault::MarkWord))
 }
 
-fn read_scan<'a>(left: Option<&'a [u8]>) -> Result<Line<'a>, Misread> {
-    let Some((period, length)) = two(left) else {
-        return Err(misread(0, TextFault::FieldCount));
-    };
+fn read_scan<'a>(left: Option<&'a [u8]>) -> Result<Line<'a>, LineFault> {
+    let [period, length] = exactly::<_, 2>(Fields { left }).ok_or(field_count())?;
     let period = number_in(period, 2)?;
     let length = number_in(length, 3)?;
     Ok(Line::Scan { period, length })
 }
 
-fn read_event<'a>(left: Option<&'a [u8]>) -> Result<Line<'a>, Misread> {
-    let Some((name, mark, earliest, latest)) = four(left) else {
-        return Err(misread(0, TextFault::FieldCount));
-    };
+fn read_event<'a>(left: Option<&'a [u8]>) -> Result<Line<'a>, LineFault> {
+    let [name, mark, earliest, latest] = exactly::<_, 4>(Fields { left }).ok_or(field_count())?;
     let earliest = number_in(earliest, 4)?;
     let latest = number_in(latest, 5)?;
     let mark = mark_in(mark, 3)?;
@@ -70,25 +62,19 @@ fn read_event<'a>(left: Option<&'a [u8]>) -> Result<Line<'a>, Misread> {
     })
 }
 
-fn read_gap<'a>(left: Option<&'a [u8]>) -> Result<Line<'a>, Misread> {
-    let Some((from, to, width)) = three(left) else {
-        return Err(misread(0, TextFault::FieldCount));
-    };
+fn read_gap<'a>(left: Option<&'a [u8]>) -> Result<Line<'a>, LineFault> {
+    let [from, to, width] = exactly::<_, 3>(Fields { left }).ok_or(field_count())?;
     let width = number_in(width, 4)?;
     Ok(Line::Gap { from, to, width })
 }
 
 /// What the line says. The first line of a text has to be its scan line, and no other may be one.
-pub fn read_line<'a>(line: &'a [u8], first: bool) -> Result<Line<'a>, Misread> {
+pub fn read_line<'a>(line: &'a [u8], first: bool) -> Result<Line<'a>, LineFault> {
     let (word, left) = first_field(line);
-    if first && same_bytes(word, b"scan") {
-        return read_scan(left);
+    match (word, first) {
+        (b"scan", true) => read_scan(left),
+        (b"event", false) => read_event(left),
+        (b"gap", false) => read_gap(left),
+        _ => Err(LineFault::text(1, TextFault::FirstWord)),
     }
-    if !first && same_bytes(word, b"event") {
-        return read_event(left);
-    }
-    if !first && same_bytes(word, b"gap") {
-        return read_gap(left);
-    }
-    Err(misread(1, TextFault::FirstWord))
 }

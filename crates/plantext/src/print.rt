@@ -1,13 +1,13 @@
 //! Prints a released scan, or a fault, into the caller's buffer.
-ghost use Rattle.std.specs.Prelude.{◌≡◌, ◌≤◌, length, MatchResult};
+ghost use Rattle.plantext.specs.Printing.{FitsOrStays};
 
 use crate::fault::{Cause, Fault};
 use planner::{Closing, Released};
-use text::{put_bytes, put_integer, put_natural};
+use text::Cursor;
 use timetable::Loop;
 
 /// Why nothing is printed: the buffer is shorter than the text.
-#[derive(Clone, Copy)]
+#[derive(Clone, Copy, Debug, PartialEq, Eq)]
 pub struct ShortBuffer;
 
 impl ShortBuffer {
@@ -15,94 +15,100 @@ impl ShortBuffer {
     pub const NUMBER: u16 = 66;
 }
 
-fn put_time(out: &mut [u8], at: usize, name: &[u8], time: i64) -> usize {
-    let at = put_bytes(out, at, b"time,");
-    let at = put_bytes(out, at, name);
-    let at = put_bytes(out, at, b",");
-    let at = put_integer(out, at, time);
-    put_bytes(out, at, b"\n")
+// The lines are put by hand, and not by `Display`: what that writes is promised only where `fmt` succeeds, and nobody can
+// show that it does. A print could then not promise its text or its length.
+
+fn put_time(to: &mut Cursor<'_>, name: &[u8], time: i64) {
+    to.bytes(b"time,");
+    to.bytes(name);
+    to.bytes(b",");
+    to.integer(time);
+    to.bytes(b"\n");
 }
 
-fn put_depth(out: &mut [u8], at: usize, depth: usize) -> usize {
-    let at = put_bytes(out, at, b"depth,");
-    let at = put_natural(out, at, depth as u64);
-    put_bytes(out, at, b"\n")
+fn put_depth(to: &mut Cursor<'_>, depth: usize) {
+    to.bytes(b"depth,");
+    to.natural(depth as u64);
+    to.bytes(b"\n");
 }
 
-fn put_header(out: &mut [u8], at: usize, closing: Closing, tick: u64) -> usize {
-    let at = put_bytes(out, at, b"header,");
-    let at = put_natural(out, at, closing.planned as u64);
-    let at = put_bytes(out, at, b",");
-    let at = put_natural(out, at, closing.reached as u64);
-    let at = put_bytes(out, at, b",");
-    let at = put_natural(out, at, tick);
-    put_bytes(out, at, b"\n")
+fn put_header(to: &mut Cursor<'_>, closing: Closing, tick: u64) {
+    to.bytes(b"header,");
+    to.natural(closing.planned as u64);
+    to.bytes(b",");
+    to.natural(closing.reached as u64);
+    to.bytes(b",");
+    to.natural(tick);
+    to.bytes(b"\n");
 }
 
-// The lines of a scan; answers their length.
-fn put_scan(out: &mut [u8], scan: &Released, tick: u64) -> usize {
+// The lines of a scan.
+fn put_scan(to: &mut Cursor<'_>, scan: &Released, tick: u64) {
     let view = scan.view();
-    let mut at = 0;
-    for (row, time) in view.rows.iter().zip(view.times.iter()) {
-        at = put_time(out, at, row.name.as_bytes(), *time);
+    for (row, time) in view.rows.iter().zip(view.times) {
+        put_time(to, row.name.as_bytes(), *time);
     }
-    let at = put_depth(out, at, view.depth);
-    put_header(out, at, scan.counts(tick), tick)
+    put_depth(to, view.depth);
+    put_header(to, scan.counts(tick), tick);
 }
 
 // The loop line; nothing for an empty loop.
-fn put_loop(out: &mut [u8], at: usize, found: &Loop) -> usize {
+fn put_loop(to: &mut Cursor<'_>, found: &Loop) {
     if found.count == 0 {
-        return at;
+        return;
     }
-    let mut at = put_bytes(out, at, b"loop");
+    to.bytes(b"loop");
     for code in found.codes.iter().take(found.count) {
-        at = put_bytes(out, at, b",");
-        at = put_natural(out, at, u64::from(*code));
+        to.bytes(b",");
+        to.natural(u64::from(*code));
     }
-    put_bytes(out, at, b"\n")
+    to.bytes(b"\n");
 }
 
-// The lines of a fault; answers their length.
-fn put_fault(out: &mut [u8], fault: &Fault) -> usize {
-    let at = put_bytes(out, 0, b"fault,");
-    let at = put_natural(out, at, u64::from(fault.cause.layer()));
-    let at = put_bytes(out, at, b",");
-    let at = put_natural(out, at, fault.line as u64);
-    let at = put_bytes(out, at, b",");
-    let at = put_natural(out, at, fault.field as u64);
-    let at = put_bytes(out, at, b",");
-    let at = put_natural(out, at, u64::from(fault.cause.number()));
-    let at = put_bytes(out, at, b"\n");
-    match &fault.cause {
-        Cause::Text(_) => at,
-        Cause::Plan(refusal) => put_loop(out, at, &refusal.reducing_loop()),
+// The lines of a fault.
+fn put_fault(to: &mut Cursor<'_>, fault: &Fault) {
+    to.bytes(b"fault,");
+    to.natural(u64::from(fault.cause.layer()));
+    to.bytes(b",");
+    to.natural(fault.line as u64);
+    to.bytes(b",");
+    to.natural(fault.field as u64);
+    to.bytes(b",");
+    to.natural(u64::from(fault.cause.number()));
+    to.bytes(b"\n");
+    if let Cause::Plan(refusal) = &fault.cause {
+        put_loop(to, &refusal.reducing_loop());
     }
+}
+
+// Runs `put` on nothing, for the length, and then on the buffer, if that is long enough.
+fn print<F: Fn(&mut Cursor<'_>)>(out: &mut [u8], put: F) -> Result<usize, ShortBuffer>
+    requires { F.IsAlwaysCallable put }
+    ensures { FitsOrStays out.old result out.new }
+{
+    let mut length = Cursor {
+        out: &mut [],
+        at: 0,
+    };
+    put(&mut length);
+    if length.at > out.len() {
+        return Err(ShortBuffer);
+    }
+    put(&mut Cursor { out, at: 0 });
+    Ok(length.at)
 }
 
 /// Prints the times, the depth, and the header with what closing at this tick would answer; answers the length.
 /// A buffer that is too short stays as it was.
 pub fn print_scan(scan: &Released, tick: u64, out: &mut [u8]) -> Result<usize, ShortBuffer>
-    ensures { MatchResult result (λ n. n ≤ length out.old) (λ _. out.new ≡ out.old) }
+    ensures { FitsOrStays out.old result out.new }
 {
-    let mut none = [0u8; 0];
-    let length = put_scan(&mut none, scan, tick);
-    if length > out.len() {
-        return Err(ShortBuffer);
-    }
-    put_scan(out, scan, tick);
-    Ok(length)
+    print(out, |to| put_scan(to, scan, tick))
 }
 
 /// Prints the fault, and its loop where it has one; answers the length. A buffer that is too short stays as it was.
 pub fn print_fault(fault: &Fault, out: &mut [u8]) -> Result<usize, ShortBuffer>
-    ensures { MatchResult result (λ n. n ≤ length out.old) (λ _. out.new ≡ out.old) }
+    ensures { FitsOrStays out.old result out.new }
 {
-    let mut none = [0u8; 0];
-    let length = put_fault(&mut none, fault);
-    if length > out.len() {
-        return Err(ShortBuffer);
-    }
-    put_fault(out, fault);
-    Ok(length)
+    print(out, |to| put_fault(to, fault))
 }

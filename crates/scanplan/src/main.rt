@@ -6,9 +6,8 @@ mod run;
 #[cfg(test)]
 mod tests;
 
-use anyhow::anyhow;
 use plantext::limits::{PRINT, TEXT};
-use run::{Printed, Trouble, run};
+use run::{Printed, run};
 use std::io::{Read, Write};
 use std::process::ExitCode;
 
@@ -22,15 +21,8 @@ fn read_input(rt: &HostRuntime) -> anyhow::Result<Vec<u8>> {
 fn answer(rt: &HostRuntime) -> anyhow::Result<Printed> {
     let text = read_input(rt)?;
     let mut out = [0u8; PRINT];
-    let printed = match run(rt.alloc(), text.as_slice(), &mut out) {
-        Ok(printed) => printed,
-        Err(Trouble::Memory) => return Err(anyhow!("no memory for the plan")),
-        Err(Trouble::ShortBuffer) => return Err(anyhow!("no room to print")),
-    };
-    let length = match printed {
-        Printed::Timetable(length) => length,
-        Printed::Fault(length) => length,
-    };
+    let printed = run(rt.alloc(), text.as_slice(), &mut out)?;
+    let (Printed::Timetable(length) | Printed::Fault(length)) = printed;
     rt.stdout().write_all(&out[0..length.min(PRINT)])?;
     Ok(printed)
 }

@@ -1,19 +1,22 @@
 //! The whole job on a text in memory.
 use planner::Plan;
-use plantext::{Fault, LoadError, ShortBuffer, load, print_fault, print_scan};
+use plantext::{LoadError, ShortBuffer, load, print_fault, print_scan};
 use std::alloc::{AllocError, Global};
+use thiserror::Error;
 
 /// What was printed: so many bytes of a timetable, or of a fault.
-#[derive(Clone, Copy)]
+#[derive(Clone, Copy, Debug, PartialEq, Eq)]
 pub enum Printed {
     Timetable(usize),
     Fault(usize),
 }
 
 /// Why nothing was printed.
-#[derive(Clone, Copy)]
+#[derive(Clone, Copy, Debug, Error)]
 pub enum Trouble {
+    #[error("no memory for the plan")]
     Memory,
+    #[error("no room to print")]
     ShortBuffer,
 }
 

@@ -1,4 +1,4 @@
-mod FieldLaws
+pub mod FieldLaws
 mod LineLaws
 mod NumberLaws
 mod PutLaws

@@ -1,12 +1,17 @@
 -- The laws of reading a number.
-use Rattle.std.proofs.Common.{◌≡◌, ℕ, zero, suc, ◌+◌, ◌-◌, ◌*◌, ◌^◌, ◌<◌, ◌≤◌, true, false, ◌&&◌, List, [], ◌∷◌, length, get_or, drop, pos, neg_ℤ, Some, None, refl, pow-suc, add-one, arith, rules, eq-eqb, ne_eqb}
+use Rattle.std.proofs.Common.{◌≡◌, ℕ, ◌^◌, ◌<◌, ◌≤◌, true, false, List, [], ◌∷◌, length, get_or, Bool, w64, ℤ, pos, Some, None, refl, arith, rules}
 use Rattle.std.specs.Option.{option_map}
-use Rattle.std.specs.Char.{is_ascii_digit}
 use Rattle.std.specs.Str.{all_ascii_digits}
-use Rattle.std.proofs.lemmas.List.{at_drop_more}
 use Rattle.std.proofs.lemmas.Str.Parse.{IsNumeralModel, numerals_by_fold}
 use Rattle.std.proofs.lemmas.Bool.Decides.{nat_tests}
-use Rattle.text.specs.Number.{read_on, figures_of, value_of, Small}
+use Rattle.std.specs.Prelude.{Result, Ok, Err, IfSome}
+use Rattle.std.specs.Result.{OkIff, result_ok}
+use Rattle.std.specs.Str.{IsUtf8}
+use Rattle.std.specs.Str.Parse.{ParsesSigned}
+use Rattle.std.proofs.lemmas.Str.{IsUtf8-from_ascii}
+use Rattle.std.proofs.lemmas.Fmt.{IsAscii-from_digits}
+use Rattle.std.proofs.lemmas.Str.Parse.{parse_signed_plain, digits_value_short}
+use Rattle.text.specs.Number.{read_on, figures_of, Small}
 
 -- `read_on` reads decimal digits, so the library's laws of them hold of it
 pub own : IsNumeralModel (λ ds. all_ascii_digits ds ≡ true) (read_on 0)
@@ -20,25 +25,20 @@ pub figures_none : (ds : List ℕ) → all_ascii_digits ds ≡ false → figures
 figures_none [] h = refl
 figures_none (c ∷ cs) h = grind (arith, nat_tests)
 
--- one digit more
-pub read_more : (ds : List ℕ) (i n : ℕ) → i < length ds → read_on n (drop i ds) ≡ read_on (n * 10 + (get_or ds i 0 - 48)) (drop (i + 1) ds)
-read_more ds i n l = at_drop_more (read_on n) ds i 0 l
+-- what the library's parse gives of up to ten bytes that begin with 1 to 9
+pub figures_parsed : {E : Type 0} (ds : List ℕ) (r : Result ℤ E) → 0 < length ds → 49 ≤ get_or ds 0 0 → get_or ds 0 0 ≤ 57 → length ds ≤ 10 → ParsesSigned w64 10 ds r → (result_ok r ≡ option_map pos (figures_of ds)) × IfSome (result_ok r) Small
+figures_parsed {E} ds r some low high short h = by (all_ascii_digits ds) refl r (parse_signed_plain own w64 ds r h (omega arith) (omega arith))
+  where
+    by : (b : Bool) → all_ascii_digits ds ≡ b → (r : Result ℤ E) → OkIff r ((all_ascii_digits ds ≡ true) × (0 < length ds) × (read_on 0 ds < 2 ^ 63)) (pos (read_on 0 ds)) → (result_ok r ≡ option_map pos (figures_of ds)) × IfSome (result_ok r) Small
+    by true all (Ok z) w = (rw (figures_is ds some (omega arith) short all, w.1) refl, rw w.1 (digits_value_short own ds 10 all short))
+    by true all (Err e) w = absurd (w (all, some, omega (arith, digits_value_short own ds 10 all short)))
+    by false all (Ok z) w = absurd (cc w.0.0)
+    by false all (Err e) w = (rw (figures_none ds all) refl, tt)
 
-pub digits_more : (ds : List ℕ) (i : ℕ) → i < length ds → all_ascii_digits (drop i ds) ≡ (is_ascii_digit (get_or ds i 0) && all_ascii_digits (drop (i + 1) ds))
-digits_more ds i l = at_drop_more all_ascii_digits ds i 0 l
-
-pub bound_more : (n d i : ℕ) → n < 10 ^ i → d < 10 → n * 10 + d < 10 ^ (i + 1)
-bound_more n d i h l = rw (add-one i, pow-suc 10 i) (omega arith)
-
--- a field that begins with a minus, and one that does not and is not `0`
-pub value_minus : (bs ds : List ℕ) → 0 < length bs → get_or bs 0 0 ≡ 45 → ds ≡ drop 1 bs → value_of bs ≡ option_map (λ n. neg_ℤ (pos n)) (figures_of ds)
-value_minus [] ds some e f = absurd (omega arith)
-value_minus (c ∷ cs) ds some e f = rw (eq-eqb c 45 e, f)
-
-pub value_plain : (bs : List ℕ) → (get_or bs 0 0 ≡ 45 → ⊥) → (get_or bs 0 0 ≡ 48 → length bs ≡ 1 → ⊥) → value_of bs ≡ option_map pos (figures_of bs)
-value_plain [] ne apart = refl
-value_plain (c ∷ cs) ne apart = rw (ne_eqb c 45 ne) (grind (arith, nat_tests))
-
-pub small_neg : (n : ℕ) → n < 10 ^ 10 → Small (neg_ℤ (pos n))
-small_neg zero h = omega arith
-small_neg (suc n) h = h
+-- bytes that are no text are no digits
+pub figures_not_utf8 : (ds : List ℕ) → (IsUtf8 ds → ⊥) → figures_of ds ≡ None
+figures_not_utf8 ds h = by (all_ascii_digits ds) refl
+  where
+    by : (b : Bool) → all_ascii_digits ds ≡ b → figures_of ds ≡ None
+    by true all = absurd (h (IsUtf8-from_ascii ds (IsAscii-from_digits ds (own.to ds all))))
+    by false all = figures_none ds all

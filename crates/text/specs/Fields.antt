@@ -1,6 +1,8 @@
 -- The fields of a line: commas part them, and nothing is quoted.
-use Rattle.std.specs.Prelude.{ℕ, cond, List, [], ◌∷◌, Some, None, Option, ◌==◌}
+use Rattle.std.specs.Prelude.{ℕ, ◌<◌, ◌≡◌, cond, List, [], ◌∷◌, length, MatchOption, Some, None, Option, ◌==◌}
 use Rattle.std.specs.Borrow.{Bor}
+use Rattle.std.specs.Iterator.{YieldsThen}
+use Rattle.text.specs.declared.fields.Fields.{Fields}
 
 -- b stands before the first piece
 abbrev pub onto : ℕ → List (List ℕ) → List (List ℕ)
@@ -19,3 +21,11 @@ fields bs = split 44 bs
 abbrev pub fields_left : Option (Bor (List ℕ)) → List (List ℕ)
 fields_left None = []
 fields_left (Some r) = fields r.now
+
+-- what an iterator over fields has left
+abbrev pub left_of : Fields → List (List ℕ)
+left_of f = fields_left f.left
+
+-- fewer or more items than n come
+abbrev pub GivesOther : {S A : Type 0} → (S → Option A → S → Type 0) → S → ℕ → Type 0
+GivesOther {S} {A} steps s n = (xs : List A) × (r : Option A) × (u : S) × YieldsThen steps s xs r u × MatchOption r (length xs < n) (λ _. length xs ≡ n)

@@ -1,10 +1,10 @@
 -- The lines of a text: each is ended by a byte 10.
 use Rattle.std.specs.Prelude.{◌≡◌, ℕ, cond, List, [], ◌∷◌, ◌++◌, ◌==◌, ◌≢◌}
-use Rattle.std.specs.List.{AllByRecursion}
+use Rattle.std.specs.List.{All}
 
 -- no byte of bs is s
 abbrev pub Lacks : ℕ → List ℕ → Type 0
-Lacks s bs = AllByRecursion (λ b. b ≢ s) bs
+Lacks s bs = All (λ b. b ≢ s) bs
 
 -- the text is the front, the first byte s, and the rest
 pub record Cut (s : ℕ) (text front rest : List ℕ) : Type 0 where

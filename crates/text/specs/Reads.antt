@@ -1,5 +1,5 @@
 -- What a reader has left, and what one step takes.
-use Rattle.std.specs.Prelude.{◌≡◌, ℕ, ◌+◌, ◌<◌, ◌≤◌, List, [], ◌∷◌, length, drop}
+use Rattle.std.specs.Prelude.{◌≡◌, ℕ, ◌+◌, ◌<◌, ◌≤◌, List, [], ◌∷◌, length, drop, Option, MatchOption}
 use Rattle.text.specs.declared.part.Part.{Part}
 use Rattle.text.specs.declared.reader.Reader.{Reader}
 use Rattle.text.specs.Lines.{Lacks, Cut, lines}
@@ -26,3 +26,7 @@ pub record Stepped (old : Reader) (line rest : Part) (new : Reader) : Type 0 whe
   -- what lets a loop over the lines end
   pub grows : old.cursor < new.cursor
   pub within : new.cursor ≤ length old.text.now
+
+-- what a step does: it takes the next line, or there is none
+abbrev pub TakesLine : Reader → Option (Part × Part) → Reader → Type 0
+TakesLine old r new = MatchOption r (Ended old new) (λ p. Stepped old p.0 p.1 new)

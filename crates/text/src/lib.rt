@@ -11,8 +11,8 @@ mod part;
 mod put;
 mod reader;
 
-pub use fields::{first_field, four, three, two};
+pub use fields::{Fields, exactly, first_field};
 pub use number::read_number;
 pub use part::Part;
-pub use put::{put_bytes, put_integer, put_natural};
+pub use put::{Cursor, put_bytes, put_integer, put_natural};
 pub use reader::Reader;

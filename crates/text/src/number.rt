@@ -1,25 +1,20 @@
 //! The numbers of a plan text.
-ghost use Rattle.std.specs.Prelude.{◌≡◌, ◌^◌, ◌<◌, IfSome};
+ghost use Rattle.std.specs.Prelude.{◌≡◌, pos, IfSome};
+ghost use Rattle.std.specs.Option.{option_map};
 ghost use Rattle.text.specs.Number.{figures_of, value_of, Small};
 
 use crate::limits::DIGITS;
+use std::str::from_utf8;
 
 /// The number that a digit 1 to 9 and up to nine digits more write.
-fn figures(digits: &[u8]) -> Option<u64>
-    ensures value { result ≡ figures_of digits.now }
-    ensures bound { IfSome result (λ n. n < 10 ^ 10) }
+fn figures(digits: &[u8]) -> Option<i64>
+    ensures value { result ≡ option_map pos (figures_of digits.now) }
+    ensures bound { IfSome result Small }
 {
-    if digits.is_empty() || digits.len() > DIGITS || digits[0] == b'0' {
-        return None;
+    match digits {
+        [b'1'..=b'9', ..] if digits.len() <= DIGITS => from_utf8(digits).ok()?.parse().ok(),
+        _ => None,
     }
-    let mut n: u64 = 0;
-    for d in digits {
-        if !d.is_ascii_digit() {
-            return None;
-        }
-        n = n * 10 + u64::from(*d - b'0');
-    }
-    Some(n)
 }
 
 /// The number that a field writes: `0`, or an optional `-`, a digit 1 to 9, and up to nine digits more.
@@ -27,13 +22,11 @@ pub fn read_number(field: &[u8]) -> Option<i64>
     ensures value { result ≡ value_of field.now }
     ensures bound { IfSome result (λ z. Small z) }
 {
-    if field.len() == 1 && field[0] == b'0' {
+    if field == b"0".as_slice() {
         return Some(0);
     }
-    if !field.is_empty() && field[0] == b'-' {
-        let n = figures(&field[1..])?;
-        return Some(-(n as i64));
+    match field.strip_prefix(b"-") {
+        Some(digits) => Some(-figures(digits)?),
+        None => figures(field),
     }
-    let n = figures(field)?;
-    Some(n as i64)
 }

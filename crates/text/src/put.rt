@@ -2,63 +2,70 @@
 //!
 //! A printing function is run twice over the same things: first with an empty buffer, where its answer is
 //! the length of the text, and then with a buffer of that length.
-ghost use Rattle.std.specs.Prelude.{◌≡◌, ◌+◌, ◌<◌, length, drop, decimal};
+ghost use Rattle.std.specs.Prelude.{decimal};
 ghost use Rattle.std.specs.Fmt.{signed_decimal};
-ghost use Rattle.text.specs.Put.{Prints};
+ghost use Rattle.text.specs.Put.{PrintsWhole, PrintsAt};
 
-use crate::limits::PUT;
+use itoa::{Buffer, Integer};
 
 /// Answers the place behind `bytes` at `at`, and writes them there if they fit.
 pub fn put_bytes(out: &mut [u8], at: usize, bytes: &[u8]) -> usize
-    ensures prints { Prints out.old at bytes.now result out.new }
-    ensures full { length out.old < at + length bytes.now → out.new ≡ out.old }
+    ensures { PrintsWhole out.old at bytes.now result out.new }
 {
-    let Some(end) = at.checked_add(bytes.len()) else {
-        return usize::MAX;
-    };
+    let end = at.saturating_add(bytes.len());
     if end <= out.len() {
         out[at..end].copy_from_slice(bytes);
     }
     end
 }
 
-/// Writes the decimal digits of `n` at the end of `buffer`, and answers where they begin.
-fn write_digits(buffer: &mut [u8; PUT], n: u64) -> usize
-    ensures within { result < 20 }
-    ensures digits { drop result buffer.new ≡ decimal n }
+// As `put_bytes`, with the decimal digits of `n`, and a `-` before them where it is negative.
+fn put_number<I: Integer>(out: &mut [u8], at: usize, n: I) -> usize
+    ensures { PrintsWhole out.old at (I.text n) result out.new }
 {
-    let mut at = PUT;
-    let mut left = n;
-    while left >= 10 {
-        at -= 1;
-        buffer[at] = b'0' + (left % 10) as u8;
-        left /= 10;
-    }
-    at -= 1;
-    buffer[at] = b'0' + left as u8;
-    at
+    put_bytes(out, at, Buffer::new().format(n).as_bytes())
 }
 
 /// As `put_bytes`, with the decimal digits of `n`.
 pub fn put_natural(out: &mut [u8], at: usize, n: u64) -> usize
-    ensures prints { Prints out.old at (decimal n) result out.new }
-    ensures full { length out.old < at + length (decimal n) → out.new ≡ out.old }
+    ensures { PrintsWhole out.old at (decimal n) result out.new }
 {
-    let mut buffer = [0; PUT];
-    let start = write_digits(&mut buffer, n);
-    put_bytes(out, at, &buffer[start..])
+    put_number(out, at, n)
 }
 
 /// As `put_bytes`, with the decimal digits of `z`, and a `-` before them where it is negative.
 pub fn put_integer(out: &mut [u8], at: usize, z: i64) -> usize
-    ensures prints { Prints out.old at (signed_decimal z) result out.new }
-    ensures full { length out.old < at + length (signed_decimal z) → out.new ≡ out.old }
+    ensures { PrintsWhole out.old at (signed_decimal z) result out.new }
 {
-    let mut buffer = [0; PUT];
-    let mut start = write_digits(&mut buffer, z.unsigned_abs());
-    if z < 0 {
-        start -= 1;
-        buffer[start] = b'-';
+    put_number(out, at, z)
+}
+
+/// A place in a buffer: what is put there is printed, and the place moves on behind it.
+#[derive(Drop)]
+pub struct Cursor<'a> {
+    pub out: &'a mut [u8],
+    pub at: usize,
+}
+
+impl<'a> Cursor<'a> {
+    /// As the function `put_bytes`.
+    pub fn bytes(&mut self, bytes: &[u8])
+        ensures { PrintsAt self.old bytes.now self.new }
+    {
+        self.at = put_bytes(self.out, self.at, bytes);
     }
-    put_bytes(out, at, &buffer[start..])
+
+    /// As the function `put_natural`.
+    pub fn natural(&mut self, n: u64)
+        ensures { PrintsAt self.old (decimal n) self.new }
+    {
+        self.at = put_natural(self.out, self.at, n);
+    }
+
+    /// As the function `put_integer`.
+    pub fn integer(&mut self, z: i64)
+        ensures { PrintsAt self.old (signed_decimal z) self.new }
+    {
+        self.at = put_integer(self.out, self.at, z);
+    }
 }

@@ -2,7 +2,7 @@
 ghost use Rattle.std.specs.Prelude.{◌≤◌, length};
 
 /// How far `text` is read: `cursor` is the place of the first unread byte, and `line` counts the lines that were taken.
-#[derive(Drop)]
+#[derive(Debug, Drop)]
 pub struct Reader<'a> {
     pub text: &'a [u8],
     pub cursor: usize,

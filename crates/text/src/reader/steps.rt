@@ -1,6 +1,7 @@
 //! The steps of a reader.
-ghost use Rattle.std.specs.Prelude.{◌≡◌, MatchOption};
-ghost use Rattle.text.specs.Reads.{unread, Ended, Stepped};
+ghost use Rattle.std.specs.Prelude.{◌≡◌};
+ghost use Rattle.std.specs.Iterator.{item_count};
+ghost use Rattle.text.specs.Reads.{unread, TakesLine};
 
 use super::Reader;
 use crate::part::{Part, find};
@@ -22,18 +23,20 @@ impl<'a> Reader<'a> {
             line: 0,
         }
     }
+}
+
+impl<'a> Iterator for Reader<'a> {
+    type Item = (Part<'a>, Part<'a>);
+
+    ghost next_gives = { TakesLine };
+
+    ghost remaining = { item_count unread };
 
     /// Takes the next line, and answers it without its end, with the unread rest behind it.
     /// Where no line is ended any more it answers `None`, and nothing moves.
-    pub fn next(&mut self) -> Option<(Part<'a>, Part<'a>)>
-        ensures { MatchOption result (Ended self.old self.new) (λ p. Stepped self.old p.0 p.1 self.new) }
-    {
-        let text = self.text;
-        let left = &text[self.cursor..];
-        let n = find(left, LINE_END);
-        if n == left.len() {
-            return None;
-        }
+    fn next(&mut self) -> Option<(Part<'a>, Part<'a>)> {
+        let left = &self.text[self.cursor..];
+        let n = find(left, LINE_END)?;
         let line = Part {
             bytes: &left[..n],
             at: self.cursor,
@@ -41,7 +44,7 @@ impl<'a> Reader<'a> {
         self.cursor += n + 1;
         self.line += 1;
         let rest = Part {
-            bytes: &text[self.cursor..],
+            bytes: &left[n + 1..],
             at: self.cursor,
         };
         Some((line, rest))

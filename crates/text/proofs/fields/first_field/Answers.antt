@@ -1,21 +1,15 @@
-use Rattle.std.proofs.Common.{◌+◌, ◌<◌, length, refl, arith}
-use Rattle.std.proofs.lemmas.List.{take_rest, length-drop}
-use Rattle.text.proofs.LineLaws.{cut_front, lacks_all}
+use Rattle.std.proofs.Common.{◌+◌}
+use Rattle.std.proofs.lemmas.List.{take_rest}
+use Rattle.text.proofs.LineLaws.{cut_at}
 use Rattle.text.proofs.FieldLaws.{fields_step, split_none}
 use Rattle.text.proofs.fields.first_field.Goals as goal
 
-pub returns-then-n-line : goal.returns-then-n-line
-returns-then-n-line c = record {
-  parts = split_none 44 _ (lacks_all 44 _ _ c.find-n.result refl (omega arith) c.find-n.ensures.before);
-  shorter = tt;
-}
-
-pub returns : goal.returns
-returns c =
+pub returns-in-Some-clause-parts : goal.returns-in-Some-clause-parts
+returns-in-Some-clause-parts c =
     let xs = c.args.line.now in
-    let n = c.find-n.result in
-    let inside : n < length xs = omega arith in
-    record {
-      parts = rw (take_rest xs (n + 1)) (fields_step _ _ _ (cut_front 44 xs n inside c.find-n.ensures.before (c.find-n.ensures.found inside)));
-      shorter = rw (take_rest xs (n + 1), length-drop (n + 1) xs) (omega arith);
-    }
+    let n = c.in-Some.n in
+    let found = c.in-Some.ensures in
+    rw (take_rest xs (n + 1)) (fields_step _ _ _ (cut_at 44 xs n found.0 found.1 found.2))
+
+pub returns-in-None-clause-parts : goal.returns-in-None-clause-parts
+returns-in-None-clause-parts c = split_none 44 _ c.in-None.ensures
