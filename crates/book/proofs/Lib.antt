@@ -1,2 +1,2 @@
-mod Fronts
+pub mod EachKind
 pub mod Joined

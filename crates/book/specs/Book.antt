@@ -1,5 +1,6 @@
 -- A plan as what was asked of it, and nothing else: no times, no solver.
-use Rattle.std.specs.Prelude.{◌≡◌, ℕ, ◌+◌, ◌<◌, Bool, true, false, not, ◌&&◌, ◌||◌, List, [], ◌∷◌, length, ℤ, pos, is_some, IfSome, codes, Option, int_le, nat_lt, slice_index_or}
+use Rattle.std.specs.Prelude.{◌≡◌, ℕ, ◌+◌, ◌<◌, Bool, true, false, not, ◌&&◌, List, [], ◌∷◌, length, ℤ, pos, is_some, IfSome, codes, Option, int_le, nat_lt, slice_index_or}
+use Rattle.std.specs.List.{list_all, list_any}
 use Rattle.std.specs.Str.{bytes_eq}
 use Rattle.book.specs.declared.mark.Mark.{Mark}
 use Rattle.book.specs.declared.mark.Mark.TheVariants.{Frame, Free}
@@ -68,8 +69,7 @@ framed rows j = is_frame (row rows j).mark
 
 -- some event has the name
 abbrev pub has_name : List Row → List ℕ → Bool
-has_name [] n = false
-has_name (r ∷ rs) n = bytes_eq r.name n || has_name rs n
+has_name rows n = list_any (λ r. bytes_eq r.name n) rows
 
 -- a look-up of the name answers r: the number of an event that has it, or nothing where none has
 pub record Lookup (rows : List Row) (n : List ℕ) (r : Option ℕ) : Type 0 where
@@ -85,8 +85,7 @@ joins n g = nat_lt g.from n && nat_lt g.to n
 
 -- so does each of the gaps
 abbrev pub all_join : ℕ → List Gap → Bool
-all_join n [] = true
-all_join n (g ∷ gs) = joins n g && all_join n gs
+all_join n gaps = list_all (joins n) gaps
 
 -- row 0 is there, and is a frame event
 abbrev pub opens : List Row → Bool

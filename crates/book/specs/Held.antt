@@ -1,5 +1,5 @@
 -- What a table holds, as a book.
-use Rattle.std.specs.Prelude.{ℕ, List, map, take, ℤ, vec_items}
+use Rattle.std.specs.Prelude.{ℕ, List, map, ℤ, vec_items}
 use Rattle.book.specs.declared.name.Name.{Name}
 use Rattle.book.specs.declared.row.Row.{Row as HeldRow}
 use Rattle.book.specs.declared.row.Gap.{Gap as HeldGap}
@@ -7,7 +7,7 @@ use Rattle.book.specs.declared.table.Table.{Table}
 use Rattle.book.specs.Book.{Book, Row, Gap}
 
 abbrev pub spelling : Name → List ℕ
-spelling n = take n.len n.bytes
+spelling n = n.text.bytes
 
 abbrev pub row_of : HeldRow → Row
 row_of r = record { name = spelling r.name; mark = r.mark; earliest = r.window.earliest; latest = r.window.latest }

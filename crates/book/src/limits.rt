@@ -25,6 +25,8 @@ pub const ITEMS: usize = GAPS + 2 * (EVENTS - 1);
 /// Items of a loop that is handed over: m frame events and r free ones, m + r at most 40, make m * (r + 1) at most 420.
 pub const LOOP: usize = 420;
 
+// Codes, and no enum of items: the rules fix what a loop record holds.
+
 /// The code of the not-before edge of event j is this and j.
 pub const NOT_BEFORE: u16 = 1000;
 

@@ -3,7 +3,7 @@ ghost use Rattle.std.specs.Prelude.{◌≡◌};
 ghost use Rattle.book.specs.Book.{is_frame};
 
 /// Where an event may lie: on the frame clock alone, at a multiple of the period, or on any tick.
-#[derive(Clone, Copy)]
+#[derive(Clone, Copy, Debug, PartialEq, Eq)]
 pub enum Mark {
     Frame,
     Free,
@@ -13,9 +13,6 @@ impl Mark {
     pub fn is_frame(self) -> bool
         ensures { result ≡ is_frame self }
     {
-        match self {
-            Mark::Frame => true,
-            Mark::Free => false,
-        }
+        matches!(self, Mark::Frame)
     }
 }

@@ -6,7 +6,7 @@ use crate::mark::Mark;
 use crate::name::Name;
 
 /// An event lies from `earliest` to `latest`, both included.
-#[derive(Clone, Copy)]
+#[derive(Clone, Copy, Debug, PartialEq, Eq)]
 pub struct Window {
     pub earliest: i64,
     pub latest: i64,
@@ -16,7 +16,7 @@ pub struct Window {
 }
 
 /// An event: its number is its place among the rows.
-#[derive(Clone, Copy)]
+#[derive(Clone, Copy, Debug, PartialEq, Eq)]
 pub struct Row {
     pub name: Name,
     pub mark: Mark,
@@ -24,7 +24,7 @@ pub struct Row {
 }
 
 /// The time of `to` less the time of `from` is at most `width`.
-#[derive(Clone, Copy)]
+#[derive(Clone, Copy, Debug, PartialEq, Eq)]
 pub struct Gap {
     pub from: usize,
     pub to: usize,

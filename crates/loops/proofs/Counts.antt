@@ -1,18 +1,11 @@
 -- Counts of the numbers below n that pass a test, and numbers in mixed bases.
-use Rattle.std.proofs.Common.{◌≡◌, ℕ, zero, suc, ◌+◌, ◌*◌, ◌<◌, ◌≤◌, Bool, true, false, cond, eqb, List, [], ◌∷◌, length, refl, inl, inr, mul-le-mul_right, arith}
+use Rattle.std.proofs.Common.{◌≡◌, ℕ, zero, suc, ◌+◌, ◌*◌, ◌<◌, ◌≤◌, Bool, true, false, cond, eqb, List, [], ◌∷◌, length, sym, refl, ◌∙◌, inl, inr, mul-le-mul_right, arith}
 use Rattle.std.proofs.lemmas.Bool.{cases_eq}
 use Rattle.loops.specs.Levels.{level, ranked, product}
 
 abbrev pub count : (ℕ → Bool) → ℕ → ℕ
 count p zero = 0
 count p (suc n) = count p n + cond (p n) 1 0
-
-pub count_same : (p q : ℕ → Bool) (n : ℕ) → ((v : ℕ) → v < n → p v ≡ q v) → count p n ≡ count q n
-count_same p q zero h = refl
-count_same p q (suc n) h =
-    let e : p n ≡ q n = h n (omega arith) in
-    let ih : count p n ≡ count q n = count_same p q n (λ v l. h v (omega arith)) in
-    cc
 
 pub count_none : (p : ℕ → Bool) (n : ℕ) → ((v : ℕ) → v < n → p v ≡ false) → count p n ≡ 0
 count_none p zero h = refl
@@ -27,6 +20,9 @@ count_le p q (suc n) h =
     let ih : count p n ≤ count q n = count_le p q n (λ v l. h v (omega arith)) in
     let k : p n ≡ true → q n ≡ true = h n (omega arith) in
     grind arith
+
+pub count_same : (p q : ℕ → Bool) (n : ℕ) → ((v : ℕ) → v < n → p v ≡ q v) → count p n ≡ count q n
+count_same p q n h = omega (arith, count_le p q n (λ v l e. sym (h v l) ∙ e), count_le q p n (λ v l e. h v l ∙ e))
 
 -- q is p but for one number more
 pub count_more : (p q : ℕ → Bool) (x n : ℕ) → x < n → p x ≡ false → q x ≡ true → ((v : ℕ) → v < n → (v ≡ x → ⊥) → p v ≡ q v) → count q n ≡ count p n + 1

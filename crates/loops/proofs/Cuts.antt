@@ -1,7 +1,7 @@
 -- A path as long as there is room has a loop on it, and that loop is reducing.
-use Rattle.std.proofs.Common.{◌≡◌, ℕ, zero, suc, ◌+◌, ◌-◌, ◌<◌, ◌≤◌, List, [], ◌∷◌, length, take, drop, ℤ, pos, ◌+ℤ◌, ◌<ℤ◌, Some, Option, sym, refl, ap, ◌∙◌, subst, inl, inr, arith}
-use Rattle.std.specs.List.{AllByRecursion}
-use Rattle.std.proofs.ByRecursion.{All-drop}
+use Rattle.std.proofs.Common.{◌≡◌, ℕ, zero, suc, ◌+◌, ◌-◌, ◌<◌, ◌≤◌, List, [], ◌∷◌, length, take, drop, slice_range, ℤ, pos, ◌<ℤ◌, Some, Option, sym, refl, ap, ◌∙◌, subst, inl, inr, arith}
+use Rattle.std.specs.List.{All}
+use Rattle.std.proofs.lemmas.List.Elements.{All-nil, All-cons, All-drop}
 use Rattle.std.proofs.lemmas.Int.{ints}
 use Rattle.search.specs.declared.item.Item.{Item}
 use Rattle.search.specs.declared.values.CarriedTime.{CarriedTime}
@@ -15,7 +15,7 @@ use Rattle.loops.specs.Levels.{level, room, Ordered, Periods, Steps}
 use Rattle.loops.specs.Loops.{carries, Reducing, picked}
 use Rattle.loops.specs.Walks.{after, Falls, Path, start_of, finish, Closes, ClosesAt, Found}
 use Rattle.loops.proofs.Pigeon.{Again, Crowded, crowded}
-use Rattle.loops.proofs.Readings.{facts, multiple_zero, loop_shift}
+use Rattle.loops.proofs.Readings.{carry_lands, multiple_zero, loop_shift}
 use Rattle.loops.proofs.Traces.{keeps_on, falls_leads, falls_take, falls_reads, falls_before}
 use Rattle.loops.proofs.Picked.{length-picked, picked-drop, picked-take}
 
@@ -41,9 +41,12 @@ crowded_closes levels items u w (i ∷ c) l (inl a) = (0, omega arith, again_clo
 crowded_closes levels items u w (i ∷ c) l (inr b) = let t = crowded_closes levels items i.to w c l.2 b in (suc t.0, omega (arith, t.1), t.2)
 
 module _ (levels : List ℕ) (items : List Item) (o : Ordered levels items) where
-  inside : (u w : ℕ) (c : List Item) → u < length levels → Leads items u c w → AllByRecursion (λ v. v < length levels) (nodes u c)
-  inside u w [] b l = (b, tt)
-  inside u w (i ∷ c) b l = (b, inside i.to w c (o.ends i l.0) l.2)
+  abbrev Inside : ℕ → Type 0
+  Inside v = v < length levels
+
+  inside : (u w : ℕ) (c : List Item) → u < length levels → Leads items u c w → All Inside (nodes u c)
+  inside u w [] b l = All-cons Inside u [] b (All-nil Inside)
+  inside u w (i ∷ c) b l = All-cons Inside u (nodes i.to c) b (inside i.to w c (o.ends i l.0) l.2)
 
   -- `nodes` with its first event in sight
   chain_crowded : (c : List Item) → Leads items 0 c (finish 0 c) → room levels ≤ length c → Crowded (level levels) (nodes 0 c)
@@ -66,15 +69,15 @@ module _ (levels : List ℕ) (items : List Item) (o : Ordered levels items) wher
     On v t = Multiple (period (level levels v)) t
 
     -- a chain that falls at each item, and comes back to where it began, has lost something
-    loop_falls : (k u : ℕ) (t : ℤ) (c : List Item) (m : ℕ) → m < length c → Falls items k u c → d k u ≡ Some (time t) → On u t → finish u (take (suc m) c) ≡ u → AllByRecursion (λ i. level levels i.to ≤ level levels u) (take (suc m) c) →
-        carries (pos 0) (take (suc m) c) <ℤ pos 0
-    loop_falls k u t c m l g h o e a =
-        let loop : List Item = take (suc m) c in
-        let is : d (suc (k + m)) u ≡ Some (time (carries t loop)) = subst (λ (v : ℕ). d (suc (k + m)) v ≡ Some (time (carries t loop))) e (falls_reads items k u c t (suc m) (suc (k + m)) (omega arith) (omega arith) h g) in
-        let b : Before carried (d (suc (k + m)) u) (d (k + m) u) = subst (λ (v : ℕ). Before carried (d (suc (k + m)) v) (d (k + m) v)) e (falls_before items k u c m (k + m) refl l g) in
-        let w : Before carried (d (suc (k + m)) u) (d k u) = before_most carried_laws (d (suc (k + m)) u) (d (k + m) u) (d k u) b (keeps_on items u k (k + m) (omega arith)) in
-        let f : Before carried (Some (time (carries t loop))) (Some (time t)) = subst (λ (q : Option CarriedTime). Before carried (Some (time (carries t loop))) q) h (subst (λ (q : Option CarriedTime). Before carried q (d k u)) is w) in
-        let leads : Leads items u loop u = subst (Leads items u loop) e (falls_leads items k u loop (falls_take items k u (suc m) c g)) in
+    loop_falls : (k q u : ℕ) (t : ℤ) (c : List Item) (n : ℕ) → k + n ≡ suc q → 0 < n → n ≤ length c → Falls items k u c → d k u ≡ Some (time t) → On u t → finish u (take n c) ≡ u → All (λ i. level levels i.to ≤ level levels u) (take n c) →
+        carries (pos 0) (take n c) <ℤ pos 0
+    loop_falls k q u t c n l some w g h o e a =
+        let loop : List Item = take n c in
+        let is : d (suc q) u ≡ Some (time (carries t loop)) = rw e at (falls_reads items k u c t n (suc q) l w h g) in
+        let b : Before carried (d (suc q) u) (d q u) = rw e at (falls_before items k u c n q l some w g) in
+        let f : Before carried (d (suc q) u) (d k u) = before_most carried_laws (d (suc q) u) (d q u) (d k u) b (keeps_on items u k q (omega arith)) in
+        let r : Before carried (Some (time (carries t loop))) (Some (time t)) = rw (is, h) at f in
+        let leads : Leads items u loop u = rw e at (falls_leads items k u loop (falls_take items k u n c g)) in
         let s = loop_shift period p levels items steps u loop leads a t o in
         omega (arith, ints)
 
@@ -89,22 +92,18 @@ module _ (levels : List ℕ) (items : List Item) (o : Ordered levels items) wher
     spot k u t [] s q e l g h o = absurd (omega arith)
     spot k u t (i ∷ c) zero q e l g h o =
         let z : k ≡ q = omega arith in
-        let v : u ≡ i.from = sym g.1 in
-        subst (λ (n : ℕ). Spot n (i ∷ c)) z (record {
-          at = t;
-          is = subst (λ (x : ℕ). d k x ≡ Some (time t)) v h;
-          on = subst (λ (x : ℕ). On x t) v o;
-          falls = subst (λ (x : ℕ). Falls items k x (i ∷ c)) v g;
-        })
+        subst (λ (n : ℕ). Spot n (i ∷ c)) z (record { at = t; is = rw g.1 h; on = rw g.1 o; falls = (g.0, refl, g.2 ∙ ap (λ (x : ℕ). lift carried i (d k x)) (sym g.1), g.3, g.4) })
     spot k u t (i ∷ c) (suc s) q e l g h o =
-        spot (suc k) i.to (carry i t) c s q (omega arith) (omega arith) g.4 (g.2 ∙ ap (lift carried i) h)
-        (subst (On i.to) (sym (steps i g.0 t)) ((facts period p (level levels i.to)).lands (t +ℤ i.weight)))
+        spot (suc k) i.to (carry i t) c s q (omega arith) (omega arith) g.4 (g.2 ∙ ap (lift carried i) h) (carry_lands period p levels items steps i g.0 t)
 
-    pub reduces : (path : List ℕ) → Path items path → (first count : ℕ) → Found levels items path first count → Reducing levels items (picked items (take count (drop first path)))
-    reduces path pa first count f =
+    pub reduces : (path : List ℕ) → Path items path → (first e : ℕ) → Found levels items path first e → Reducing levels items (picked items (slice_range path first e))
+    reduces path pa first e f =
         subst (Reducing levels items) (picked-take items count (drop first path) (All-drop (λ (n : ℕ). n < length items) first path pa.known))
         (record { start = x; leads = leads; under = f.closed.under; falls = falls })
       where
+        count : ℕ
+        count = e - first
+
         c : List Item
         c = picked items (drop first path)
 
@@ -126,9 +125,4 @@ module _ (levels : List ℕ) (items : List Item) (o : Ordered levels items) wher
         falls : carries (pos 0) (take count c) <ℤ pos 0
         falls =
             let k = f.closed.some in
-            let w = f.closed.within in
-            let z : suc (count - 1) ≡ count = omega arith in
-            subst (λ (n : ℕ). carries (pos 0) (take n c) <ℤ pos 0) z
-            (loop_falls first x here.at c (count - 1) (omega arith) here.falls here.is here.on
-            (subst (λ (n : ℕ). finish x (take n c) ≡ x) (sym z) f.closed.ends)
-            (subst (λ (n : ℕ). AllByRecursion (λ i. level levels i.to ≤ level levels x) (take n c)) (sym z) f.closed.under))
+            loop_falls first (first + count - 1) x here.at c count (omega arith) k f.closed.within here.falls here.is here.on f.closed.ends f.closed.under

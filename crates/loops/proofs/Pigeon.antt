@@ -1,9 +1,9 @@
 -- A list of events that begins with one of the top level, and in which none comes again before one of a higher level,
 -- has at most `room` places. Read from its end, such a list drives a counter in mixed bases: digit k is how many events
 -- of level k come before any of a higher level.
-use Rattle.std.proofs.Common.{◌≡◌, ℕ, suc, ◌*◌, ◌<◌, ◌≤◌, Bool, true, false, cond, ◌&&◌, eqb, leb, ◌⊎◌, List, [], ◌∷◌, length, ap, ◌∙◌, inl, inr, mul-le-mul_right, arith}
-use Rattle.std.specs.List.{AllByRecursion}
-use Rattle.std.proofs.ByRecursion.{All-weaker}
+use Rattle.std.proofs.Common.{◌≡◌, ℕ, suc, ◌*◌, ◌<◌, ◌≤◌, Bool, true, false, cond, ◌&&◌, eqb, leb, ◌⊎◌, List, [], ◌∷◌, length, get_or, inl, inr, mul-le-mul_right, arith}
+use Rattle.std.specs.List.{All}
+use Rattle.std.proofs.lemmas.List.Elements.{All-tail}
 use Rattle.std.proofs.lemmas.Bool.{cases_Bool, eqb-true, leb-true, and_parts}
 use Rattle.loops.specs.Levels.{level, ranked, product, room}
 use Rattle.loops.proofs.Counts.{count, count_same, count_none, count_le, count_more, ranked_is, product_same, value, value_none, value_more, Counted}
@@ -29,7 +29,7 @@ Apart rank (x ∷ xs) = (again rank x xs ≡ false) × Apart rank xs
 
 module _ (rank : ℕ → ℕ) where
   is_again : (x : ℕ) (xs : List ℕ) → again rank x xs ≡ true → Again rank x xs
-  is_again x [] h = let z : ◌≡◌ {A = ℕ} 0 1 = cc in omega arith
+  is_again x [] h = cc
   is_again x (y ∷ ys) h = elim (cases_Bool (eqb x y)) [ inl e ↦ inl (eqb-true x y e) | inr e ↦ inr (part e (is_again x ys)) ]
     where
       part : eqb x y ≡ false → (again rank x ys ≡ true → Again rank x ys) → (rank y ≤ rank x) × Again rank x ys
@@ -62,27 +62,28 @@ module _ (rank : ℕ → ℕ) (n : ℕ) where
   abbrev Inside : ℕ → ℕ → Type 0
   Inside top v = (v < n) × (rank v ≤ top)
 
-  counted : (top : ℕ) (xs : List ℕ) → Apart rank xs → AllByRecursion (Inside top) xs → length xs ≤ value most (digit xs) (suc top)
+  counted : (top : ℕ) (xs : List ℕ) → Apart rank xs → All (Inside top) xs → length xs ≤ value most (digit xs) (suc top)
   counted top [] g a = omega arith
   counted top (x ∷ xs) g a =
-      let ih : length xs ≤ value most (digit xs) (suc top) = counted top xs g.1 a.1 in
-      omega (arith, value_more most (digit xs) (digit (x ∷ xs)) (rank x) (digit_le xs) (digit_more x xs a.0.0 g.0) (suc top) (omega arith))
+      let h : Inside top x = a 0 x (omega arith) in
+      let ih : length xs ≤ value most (digit xs) (suc top) = counted top xs g.1 (All-tail (Inside top) x xs a) in
+      omega (arith, value_more most (digit xs) (digit (x ∷ xs)) (rank x) (digit_le xs) (digit_more x xs h.0 g.0) (suc top) (omega arith))
 
-  bounded : (top x : ℕ) (xs : List ℕ) → rank x ≡ top → Apart rank (x ∷ xs) → AllByRecursion (Inside top) (x ∷ xs) → length (x ∷ xs) ≤ most top * product most top
+  bounded : (top x : ℕ) (xs : List ℕ) → rank x ≡ top → Apart rank (x ∷ xs) → All (Inside top) (x ∷ xs) → length (x ∷ xs) ≤ most top * product most top
   bounded top x xs e g a =
-      let none : value most (digit (x ∷ xs)) top ≡ 0 = value_none most (digit (x ∷ xs)) top (λ j h. (digit_more x xs a.0.0 g.0).cleared j (omega arith)) in
+      let none : value most (digit (x ∷ xs)) top ≡ 0 = value_none most (digit (x ∷ xs)) top (λ j h. (digit_more x xs (a 0 x (omega arith)).0 g.0).cleared j (omega arith)) in
       omega (arith, counted top (x ∷ xs) g a, mul-le-mul_right (product most top) (digit_le (x ∷ xs) top))
 
 -- more places than there is room for
-pub crowded : (levels : List ℕ) → ((v : ℕ) → level levels v ≤ level levels 0) → (x : ℕ) (xs : List ℕ) → level levels x ≡ level levels 0 → AllByRecursion (λ v. v < length levels) (x ∷ xs) →
+pub crowded : (levels : List ℕ) → ((v : ℕ) → level levels v ≤ level levels 0) → (x : ℕ) (xs : List ℕ) → level levels x ≡ level levels 0 → All (λ v. v < length levels) (x ∷ xs) →
     room levels < length (x ∷ xs) → Crowded (level levels) (x ∷ xs)
 crowded levels top x xs e a l = elim (told (level levels) (x ∷ xs)) [ inr b ↦ b | inl g ↦ absurd (contra g) ]
   where
     contra : Apart (level levels) (x ∷ xs) → ⊥
     contra g =
-        let b = bounded (level levels) (length levels) (level levels 0) x xs e g (All-weaker (λ v. v < length levels) (λ v. (v < length levels) × (level levels v ≤ level levels 0)) (λ v h. (h, top v)) (x ∷ xs) a) in
+        let b = bounded (level levels) (length levels) (level levels 0) x xs e g (λ k d h. (a k d h, top (get_or (x ∷ xs) k d))) in
         let m = most (level levels) (length levels) in
         let p : m (level levels 0) ≡ ranked levels (level levels 0) = ranked_is levels (level levels 0) in
         let q : product m (level levels 0) ≡ product (ranked levels) (level levels 0) = product_same m (ranked levels) (ranked_is levels) (level levels 0) in
-        let r : m (level levels 0) * product m (level levels 0) ≡ room levels = ap (λ (y : ℕ). y * product m (level levels 0)) p ∙ ap (λ (y : ℕ). ranked levels (level levels 0) * y) q in
+        let r : m (level levels 0) * product m (level levels 0) ≡ room levels = cc in
         omega arith

@@ -1,9 +1,8 @@
 -- What chains carry times to, where each item steps down to the period of its event's level.
 use Rattle.std.proofs.Common.{◌≡◌, ℕ, zero, suc, ◌*◌, ◌≤◌, List, [], ◌∷◌, ℤ, pos, ◌+ℤ◌, ◌*ℤ◌, ◌≤ℤ◌, sym, refl, ap, ◌∙◌, subst, inl, inr, arith}
-use lib.IntN.{+ℤ_idl}
-use lib.Signed.{≤ℤ_refl}
 use borrow.Author.Differences.{up, down, product_is}
-use Rattle.std.specs.List.{AllByRecursion}
+use Rattle.std.specs.List.{Contains, All}
+use Rattle.std.proofs.lemmas.List.Elements.{All-tail}
 use Rattle.std.proofs.lemmas.Int.{ints}
 use Rattle.std.proofs.lemmas.Bool.{cases_lt}
 use Rattle.search.specs.declared.item.Item.{Item}
@@ -16,22 +15,9 @@ use Rattle.loops.specs.Loops.{carries, Reducing}
 
 times_assoc : (q m a : ℤ) → q *ℤ (m *ℤ a) ≡ (q *ℤ m) *ℤ a
 times_assoc q m a =
-    let u = (product_is q m).0 in
-    let d = (product_is q m).1 in
-    let v = (product_is m a).0 in
-    let e = (product_is m a).1 in
-    omega (
-      arith,
-      ints,
-      ap (λ (n : ℕ). n * up a) u,
-      ap (λ (n : ℕ). n * down a) u,
-      ap (λ (n : ℕ). n * up a) d,
-      ap (λ (n : ℕ). n * down a) d,
-      ap (λ (n : ℕ). up q * n) v,
-      ap (λ (n : ℕ). down q * n) v,
-      ap (λ (n : ℕ). up q * n) e,
-      ap (λ (n : ℕ). down q * n) e,
-    )
+    let u = product_is q m in
+    let v = product_is m a in
+    omega (arith, ints, ap (λ (n : ℕ). n * up a) u.0, ap (λ (n : ℕ). n * down a) u.0, ap (λ (n : ℕ). n * up a) u.1, ap (λ (n : ℕ). n * down a) u.1, ap (λ (n : ℕ). up q * n) v.0, ap (λ (n : ℕ). down q * n) v.0, ap (λ (n : ℕ). up q * n) v.1, ap (λ (n : ℕ). down q * n) v.1)
 
 -- a multiple of a multiple
 pub multiple_of : (a b g : ℤ) → Multiple a b → Multiple b g → Multiple a g
@@ -59,14 +45,18 @@ module _ (period : ℕ → ℤ) (p : Periods period) where
       ap (λ (z : ℤ). floor (period j) (x +ℤ z)) n.1 ∙ ((facts j).moves_along x n.0 ∙ ap (λ (z : ℤ). floor (period j) x +ℤ z) (sym n.1))
 
   module _ (levels : List ℕ) (items : List Item) (steps : Steps period levels items) where
+    -- an item carries onto the clock of the event where it leads
+    pub carry_lands : (i : Item) → Contains items i → (s : ℤ) → Multiple (period (level levels i.to)) (carry i s)
+    carry_lands i h s = subst (Multiple (period (level levels i.to))) (sym (steps i h s)) ((facts (level levels i.to)).lands (s +ℤ i.weight))
+
     -- a chain that meets nothing above level k moves along with a multiple of that level's period
-    pub shift : (k u w : ℕ) (c : List Item) → Leads items u c w → AllByRecursion (λ i. level levels i.to ≤ k) c → (s g : ℤ) → Multiple (period k) g → carries (s +ℤ g) c ≡ carries s c +ℤ g
+    pub shift : (k u w : ℕ) (c : List Item) → Leads items u c w → All (λ i. level levels i.to ≤ k) c → (s g : ℤ) → Multiple (period k) g → carries (s +ℤ g) c ≡ carries s c +ℤ g
     shift k u w [] l a s g m = refl
     shift k u w (i ∷ c) l a s g m =
         let q = period (level levels i.to) in
         let e : (s +ℤ g) +ℤ i.weight ≡ (s +ℤ i.weight) +ℤ g = omega (arith, ints) in
-        let h : carry i (s +ℤ g) ≡ carry i s +ℤ g = steps i l.0 (s +ℤ g) ∙ (ap (floor q) e ∙ (floor_along (level levels i.to) k (s +ℤ i.weight) g a.0 m ∙ ap (λ (z : ℤ). z +ℤ g) (sym (steps i l.0 s)))) in
-        ap (λ (z : ℤ). carries z c) h ∙ shift k i.to w c l.2 a.1 (carry i s) g m
+        let h : carry i (s +ℤ g) ≡ carry i s +ℤ g = steps i l.0 (s +ℤ g) ∙ (ap (floor q) e ∙ (floor_along (level levels i.to) k (s +ℤ i.weight) g (a 0 i (omega arith)) m ∙ ap (λ (z : ℤ). z +ℤ g) (sym (steps i l.0 s)))) in
+        ap (λ (z : ℤ). carries z c) h ∙ shift k i.to w c l.2 (All-tail (λ (j : Item). level levels j.to ≤ k) i c a) (carry i s) g m
 
     -- times that keep the items come no later than any chain carries them
     pub bounds : (x : ℕ → ℤ) → Keeps period levels items x → (u w : ℕ) (c : List Item) → Leads items u c w → (s : ℤ) → x u ≤ℤ s → x w ≤ℤ carries s c
@@ -81,14 +71,14 @@ module _ (period : ℕ → ℤ) (p : Periods period) where
         bounds x t i.to w c l.2 (carry i s) (subst (λ (z : ℤ). x i.to ≤ℤ z) (sym (steps i l.0 s)) m)
 
     -- a chain from an event back to it, that meets nothing of a higher level, carries every time of that level alike
-    pub loop_shift : (u : ℕ) (c : List Item) → Leads items u c u → AllByRecursion (λ i. level levels i.to ≤ level levels u) c → (s : ℤ) → Multiple (period (level levels u)) s → carries s c ≡ carries (pos 0) c +ℤ s
-    loop_shift u c l a s m = ap (λ (z : ℤ). carries z c) (sym (+ℤ_idl s)) ∙ shift (level levels u) u u c l a (pos 0) s m
+    pub loop_shift : (u : ℕ) (c : List Item) → Leads items u c u → All (λ i. level levels i.to ≤ level levels u) c → (s : ℤ) → Multiple (period (level levels u)) s → carries s c ≡ carries (pos 0) c +ℤ s
+    loop_shift u c l a s m = ap (λ (z : ℤ). carries z c) (omega (arith, ints)) ∙ shift (level levels u) u u c l a (pos 0) s m
 
     -- no times keep a reducing loop
     pub excludes : (chain : List Item) → Reducing levels items chain → (x : ℕ → ℤ) → Keeps period levels items x → ⊥
     excludes chain r x t =
         let v = r.start in
-        let b = bounds x t v v chain r.leads (x v) (≤ℤ_refl (x v)) in
+        let b = bounds x t v v chain r.leads (x v) (omega (arith, ints)) in
         let e = loop_shift v chain r.leads r.under (x v) (t.on_clock v) in
         let f = r.falls in
         omega (arith, ints)

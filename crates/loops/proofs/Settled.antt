@@ -1,6 +1,6 @@
 -- Where a round changes nothing, the times that it leaves keep the items, and come no sooner than any others that do.
-use Rattle.std.proofs.Common.{◌≡◌, ℕ, ◌<◌, ◌≤◌, List, [], ◌∷◌, length, ℤ, pos, ◌+ℤ◌, ◌-ℤ◌, ◌≤ℤ◌, ◌<ℤ◌, Some, None, Option, sym, refl, ap, ◌∙◌, subst, arith}
-use Rattle.std.specs.List.{ContainsAt, AllByRecursion}
+use Rattle.std.proofs.Common.{◌≡◌, ℕ, ◌<◌, ◌≤◌, List, [], ◌∷◌, length, get_or, ℤ, pos, ◌+ℤ◌, ◌-ℤ◌, ◌≤ℤ◌, ◌<ℤ◌, Some, None, Option, sym, refl, ap, ◌∙◌, subst, arith}
+use Rattle.std.specs.List.{Contains}
 use Rattle.std.proofs.lemmas.Int.{ints, by_lt_z}
 use Rattle.search.specs.declared.item.Item.{Item}
 use Rattle.search.specs.declared.values.CarriedTime.{CarriedTime}
@@ -13,7 +13,7 @@ use Rattle.search.proofs.Layers.{best-least, least_has}
 use Rattle.loops.specs.Levels.{level, Ordered, Periods, Steps, Keeps}
 use Rattle.loops.specs.Loops.{carries, time_at}
 use Rattle.loops.specs.Walks.{after}
-use Rattle.loops.proofs.Readings.{facts, multiple_zero, bounds, excludes}
+use Rattle.loops.proofs.Readings.{facts, carry_lands, multiple_zero, bounds, excludes}
 use Rattle.loops.proofs.Traces.{keeps_on, takes}
 
 at_most_some : (o : Option CarriedTime) (s : ℤ) → AtMost carried o (Some (time s)) → (t : ℤ) × (o ≡ Some (time t)) × (t ≤ℤ s)
@@ -45,7 +45,7 @@ module _ (levels : List ℕ) (items : List Item) (o : Ordered levels items) wher
 
     lands : (u w : ℕ) (c : List Item) (s : ℤ) → Leads items u c w → On u s → On w (carries s c)
     lands u w [] s l m = subst (λ (v : ℕ). On v s) l m
-    lands u w (i ∷ c) s l m = lands i.to w c (carry i s) l.2 (subst (On i.to) (sym (steps i l.0 s)) ((facts period p (level levels i.to)).lands (s +ℤ i.weight)))
+    lands u w (i ∷ c) s l m = lands i.to w c (carry i s) l.2 (carry_lands period p levels items steps i l.0 s)
 
     on_clock : (k v : ℕ) → On v (time_at (d k v))
     on_clock k v = go (d k v) refl
@@ -66,21 +66,21 @@ module _ (levels : List ℕ) (items : List Item) (o : Ordered levels items) wher
       opening : (t : ℤ) × (d k 0 ≡ Some (time t)) × (t ≤ℤ pos 0)
       opening = at_most_some (d k 0) (pos 0) (keeps_on items 0 0 k (omega arith))
 
-      closed : (i : Item) → ContainsAt items i → AtMost carried (d k i.to) (lift carried i (d k i.from))
+      closed : (i : Item) → Contains items i → AtMost carried (d k i.to) (lift carried i (d k i.from))
       closed i h = subst (λ (q : Option CarriedTime). AtMost carried q (lift carried i (d k i.from))) (still i.to) (takes items k i h)
 
       -- where an item leads from a time on, there is a time
-      led : (i : Item) → ContainsAt items i → (s : ℤ) → d k i.from ≡ Some (time s) → (t : ℤ) × (d k i.to ≡ Some (time t)) × (t ≤ℤ carry i s)
+      led : (i : Item) → Contains items i → (s : ℤ) → d k i.from ≡ Some (time s) → (t : ℤ) × (d k i.to ≡ Some (time t)) × (t ≤ℤ carry i s)
       led i h s e = at_most_some (d k i.to) (carry i s) (subst (λ (q : Option CarriedTime). AtMost carried (d k i.to) (lift carried i q)) e (closed i h))
 
       pub opening_has : (t : ℤ) × (d k 0 ≡ Some (time t))
       opening_has = (opening.0, opening.1)
 
-      pub led_has : (i : Item) → ContainsAt items i → i.from ≡ 0 → (t : ℤ) × (d k i.to ≡ Some (time t))
+      pub led_has : (i : Item) → Contains items i → i.from ≡ 0 → (t : ℤ) × (d k i.to ≡ Some (time t))
       led_has i h e = let t = led i h opening.0 (ap (d k) e ∙ opening.1) in (t.0, t.1)
 
       module _ (all : (v : ℕ) → v < length levels → (t : ℤ) × (d k v ≡ Some (time t))) where
-        kept : (i : Item) → ContainsAt items i → (time_at (d k i.to) -ℤ time_at (d k i.from)) ≤ℤ i.weight
+        kept : (i : Item) → Contains items i → (time_at (d k i.to) -ℤ time_at (d k i.from)) ≤ℤ i.weight
         kept i h =
             let a = all i.from (o.begins i h) in
             let b = led i h a.0 a.1 in
@@ -94,15 +94,11 @@ module _ (levels : List ℕ) (items : List Item) (o : Ordered levels items) wher
         pub settled_keeps : Keeps period levels items (λ v. time_at (d k v))
         settled_keeps = record { on_clock = on_clock k; kept = kept }
 
-        under_top : (c : List Item) → AllByRecursion (λ i. level levels i.to ≤ level levels 0) c
-        under_top [] = tt
-        under_top (i ∷ c) = (o.top i.to, under_top c)
-
         not_below : opening.0 <ℤ pos 0 → ⊥
         not_below l =
             let r = reads k 0 opening.0 opening.1 in
             excludes period p levels items steps r.chain
-            (record { start = 0; leads = r.leads; under = under_top r.chain; falls = subst (λ (z : CarriedTime). z.0 <ℤ pos 0) (sym r.is) l }) (λ v. time_at (d k v)) settled_keeps
+            (record { start = 0; leads = r.leads; under = λ k d _. o.top (get_or r.chain k d).to; falls = subst (λ (z : CarriedTime). z.0 <ℤ pos 0) (sym r.is) l }) (λ v. time_at (d k v)) settled_keeps
 
         pub settled_opens : time_at (d k 0) ≡ pos 0
         settled_opens = ap time_at opening.1 ∙ by_lt_z opening.0 (pos 0) (λ l. absurd (not_below l)) (λ g. let h = opening.2 in omega (arith, ints))

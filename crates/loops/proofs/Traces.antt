@@ -1,17 +1,18 @@
 -- The way back from a change: each item on it begins at an event that changed a round before.
-use Rattle.std.proofs.Common.{◌≡◌, ℕ, zero, suc, ◌+◌, ◌-◌, ◌<◌, ◌≤◌, true, eqb, List, [], ◌∷◌, length, get_or, take, drop, set, ℤ, is_some, Some, None, Option, sym, refl, ap, ◌∙◌, subst, inl, inr, arith}
-use Rattle.std.specs.List.{ContainsAt}
-use Rattle.std.proofs.lemmas.List.{length-set, drop-set, drop_all}
+use Rattle.std.proofs.Common.{◌≡◌, ℕ, zero, suc, ◌+◌, ◌<◌, ◌≤◌, true, eqb, List, [], ◌∷◌, ◌++◌, length, get_or, take, drop, set, ℤ, is_some, Some, None, Option, sym, refl, ap, ◌∙◌, subst, inl, inr, arith}
+use Rattle.std.specs.List.{Contains}
+use Rattle.std.proofs.lemmas.List.Elements.{All-cons}
+use Rattle.std.proofs.lemmas.List.{length-set, length-take, length_push, drop-set, take_more, same_from_push}
 use Rattle.std.proofs.lemmas.Bool.{cases_lt, cases_eq, cond-false, ne_eqb}
 use Rattle.search.specs.declared.item.Item.{Item}
 use Rattle.search.specs.declared.values.CarriedTime.{CarriedTime}
 use Rattle.search.specs.Chains.{Leads}
 use Rattle.search.specs.Carried.{time, carry, carried}
-use Rattle.search.specs.Rounds.{AtMost, Before, lift, Cause, Why, Last}
+use Rattle.search.specs.Rounds.{AtMost, Before, lift, Cause, Why, Last, Run}
 use Rattle.search.specs.Kept.{carried_laws}
 use Rattle.search.proofs.Passes.{most_refl, most_most, before_or_same, not_before, pass_acc, pass_has}
 use Rattle.loops.specs.Loops.{carries, picked}
-use Rattle.loops.specs.Walks.{after, Falls, Known, Walked, Path, finish}
+use Rattle.loops.specs.Walks.{after, Falls, Known, Walked, finish}
 use Rattle.loops.proofs.Picked.{picked_cons}
 
 module _ (items : List Item) where
@@ -28,16 +29,16 @@ module _ (items : List Item) where
     | inr h ↦ most_most carried_laws (d (suc m) j) (d m j) (d k j) (keeps m j) (keeps_on j k m h)
   ]
 
-  pub takes : (k : ℕ) (i : Item) → ContainsAt items i → AtMost carried (d (suc k) i.to) (lift carried i (d k i.from))
+  pub takes : (k : ℕ) (i : Item) → Contains items i → AtMost carried (d (suc k) i.to) (lift carried i (d k i.from))
   takes k i h = pass_has carried_laws (d k) i.to (d k i.to) items i h refl
 
   none_before : (o p : Option CarriedTime) → o ≡ None → Before carried o p → ⊥
   none_before None None e b = b
   none_before None (Some y) e b = b
-  none_before (Some x) p e b = let z : ◌≡◌ {A = ℕ} 0 1 = cc in omega arith
+  none_before (Some x) p e b = cc
 
-  cause_has : (k j n : ℕ) (c : Cause carried items (d k) (d (suc k)) j n) → ContainsAt items c.item
-  cause_has k j n c = (n, c.known, c.at)
+  cause_has : (k j n : ℕ) (c : Cause carried items (d k) (d (suc k)) j n) → Contains items c.item
+  cause_has k j n c = (n, c.known, c.at c.item)
 
   -- the event where the item of a change begins
   pub turned : (k j n : ℕ) (c : Cause carried items (d k) (d (suc k)) j n) → Last carried items 0 k c.item.from
@@ -61,43 +62,54 @@ module _ (items : List Item) where
           not_before carried_laws (d (suc (suc k)) j) (d (suc k) j) c.fell (subst (AtMost carried (d (suc k) j)) s t)
 
   -- a change has its item
-  pub caused : (k j : ℕ) (o : Option ℕ) → Why carried items (d k) (d (suc k)) j o → Before carried (d (suc k) j) (d k j) → is_some o ≡ true
+  caused : (k j : ℕ) (o : Option ℕ) → Why carried items (d k) (d (suc k)) j o → Before carried (d (suc k) j) (d k j) → is_some o ≡ true
   caused k j None w b = absurd (not_before carried_laws (d (suc k) j) (d k j) b (subst (λ (o : Option CarriedTime). AtMost carried o (d (suc k) j)) w (most_refl carried_laws (d (suc k) j))))
   caused k j (Some n) w b = refl
 
-  cause_of : (k j n : ℕ) (o : Option ℕ) → o ≡ Some n → Why carried items (d k) (d (suc k)) j o → Cause carried items (d k) (d (suc k)) j n
-  cause_of k j n o e w = subst (Why carried items (d k) (d (suc k)) j) e w
+  -- the rounds of `left` are still to be gone back through, from the last of them on, in which event `at` changed
+  pub record Walking (causes left : List (List (Option ℕ))) (at : ℕ) (path : List ℕ) : Type 0 where
+    pub first : left ≡ take (length left) causes
+    pub walked : Walked items (length left) at path
 
-  pub walk_start : (size at : ℕ) (path : List ℕ) → length path ≡ size → Last carried items 0 size at → Walked items (length path) at path
-  walk_start size at path e l = record {
-    low = omega arith;
-    last = subst (λ (k : ℕ). Last carried items 0 k at) (sym e) l;
-    known = subst (Known items) (sym (drop_all (length path) path (omega arith))) tt;
-    falls = subst (λ (ns : List ℕ). Falls items (length path) at (picked items ns)) (sym (drop_all (length path) path (omega arith))) tt;
-  }
+  -- one turn: `row` has what the last round of `left` noted, and `rest` the rounds before
+  module _ {causes left : List (List (Option ℕ))} {at : ℕ} {path : List ℕ} {layer : List (Option CarriedTime)} {last : ℕ} (rest : List (List (Option ℕ))) (row : List (Option ℕ))
+      (run : Run carried items 0 (length causes) layer causes last) (w : Walking causes left at path) (e : left ≡ rest ++ row ∷ []) where
+    abbrev k : ℕ
+    k = length rest
 
-  -- a turn goes from place k to k - 1
-  pub walk_from : (k at : ℕ) (path : List ℕ) → 0 < k → Walked items k at path → Walked items (suc (k - 1)) at path
-  walk_from k at path l w = let e : k ≡ suc (k - 1) = omega arith in subst (λ (n : ℕ). Walked items n at path) e w
+    longer : length left ≡ suc k
+    longer = omega (arith, ap length e, length_push rest row)
 
-  module _ (k at : ℕ) (path : List ℕ) (w : Walked items (suc k) at path) where
-    -- round k + 1 has noted an item for the event
-    pub walk_some : (o : Option ℕ) → Why carried items (d k) (d (suc k)) at o → is_some o ≡ true
-    walk_some o y = caused k at o y w.last.1
+    inside : k < length causes
+    inside = omega (arith, longer, ap length w.first, length-take (length left) causes)
 
-    pub walk_known : (n : ℕ) (o : Option ℕ) → o ≡ Some n → Why carried items (d k) (d (suc k)) at o → n < length items
-    walk_known n o e y = (cause_of k at n o e y).known
+    parts : (rest ≡ take k causes) × (row ≡ get_or causes k [])
+    parts =
+        let z : length left ≡ k + 1 = omega (arith, longer) in
+        same_from_push rest (take k causes) row (get_or causes k []) (sym e ∙ (w.first ∙ (ap (λ (n : ℕ). take n causes) z ∙ take_more causes k [] inside)))
 
-    pub walk_next : (n : ℕ) (o : Option ℕ) (i : Item) → o ≡ Some n → Why carried items (d k) (d (suc k)) at o → i ≡ get_or items n i → Walked items k i.from (set path k n)
-    walk_next n o i e y is = next (cause_of k at n o e y)
+    here : Walked items (suc k) at path
+    here = subst (λ (n : ℕ). Walked items n at path) longer w.walked
+
+    why : Why carried items (d k) (d (suc k)) at (get_or row at None)
+    why = subst (λ (r : List (Option ℕ)). Why carried items (d k) (d (suc k)) at (get_or r at None)) (sym parts.1) (run.why k inside at)
+
+    -- the round has noted an item for the event
+    pub walk_some : is_some (get_or row at None) ≡ true
+    walk_some = caused k at (get_or row at None) why here.last.1
+
+    cause : (n : ℕ) → get_or row at None ≡ Some n → Cause carried items (d k) (d (suc k)) at n
+    cause n o = subst (Why carried items (d k) (d (suc k)) at) o why
+
+    pub walk_next : {n place : ℕ} {i : Item} → get_or row at None ≡ Some n → i ≡ get_or items n i → k ≡ place → Walking causes rest i.from (set path place n)
+    walk_next {n} {place} {i} o is here_is = subst (λ (m : ℕ). Walking causes rest i.from (set path m n)) here_is (record { first = parts.0; walked = next (cause n o) })
       where
         next : Cause carried items (d k) (d (suc k)) at n → Walked items k i.from (set path k n)
         next c =
-            let l = w.low in
+            let l = here.low in
             let s : c.item ≡ i = sym (c.at i) ∙ sym is in
-            let q : drop k (set path k n) ≡ n ∷ drop (k + 1) path = drop-set path k n (omega arith) in
             let z : k + 1 ≡ suc k = omega arith in
-            let q' : drop k (set path k n) ≡ n ∷ drop (suc k) path = q ∙ ap (λ (m : ℕ). n ∷ drop m path) z in
+            let q : drop k (set path k n) ≡ n ∷ drop (suc k) path = drop-set path k n (omega arith) ∙ ap (λ (m : ℕ). n ∷ drop m path) z in
             let r : picked items (n ∷ drop (suc k) path) ≡ i ∷ picked items (drop (suc k) path) = picked_cons items n i (drop (suc k) path) c.known is in
             let to : i.to ≡ at = ap (λ (x : Item). x.to) (sym s) ∙ c.ends in
             let from : c.item.from ≡ i.from = ap (λ (x : Item). x.from) s in
@@ -105,19 +117,15 @@ module _ (items : List Item) where
             record {
               low = omega (arith, length-set path k n);
               last = subst (Last carried items 0 k) from (turned k at n c);
-              known = subst (Known items) (sym q') (c.known, w.known);
-              falls = subst (λ (ns : List ℕ). Falls items k i.from (picked items ns)) (sym q') (subst (Falls items k i.from) (sym r) (
-                subst (ContainsAt items) s (cause_has k at n c),
+              known = subst (Known items) (sym q) (All-cons (λ (m : ℕ). m < length items) n (drop (suc k) path) c.known here.known);
+              falls = subst (λ (ns : List ℕ). Falls items k i.from (picked items ns)) (sym q) (subst (Falls items k i.from) (sym r) (
+                subst (Contains items) s (cause_has k at n c),
                 refl,
                 subst (λ (v : ℕ). d (suc k) v ≡ lift carried i (d k i.from)) (sym to) got,
                 subst (λ (v : ℕ). Before carried (d (suc k) v) (d k v)) (sym to) c.fell,
-                subst (λ (v : ℕ). Falls items (suc k) v (picked items (drop (suc k) path))) (sym to) w.falls,
+                subst (λ (v : ℕ). Falls items (suc k) v (picked items (drop (suc k) path))) (sym to) here.falls,
               ));
             }
-
-  pub walk_end : (k at : ℕ) (path : List ℕ) → k ≤ 0 → Walked items k at path → Path items path
-  walk_end zero at path l w = record { known = w.known; falls = subst (λ (v : ℕ). Falls items 0 v (picked items path)) w.last w.falls }
-  walk_end (suc k) at path l w = absurd (omega arith)
 
   -- ---- what a falling chain says of its first items
 
@@ -136,7 +144,8 @@ module _ (items : List Item) where
   falls_reads k u [] s (suc m) q e l h f = absurd (omega arith)
   falls_reads k u (i ∷ c) s (suc m) q e l h f = falls_reads (suc k) i.to c (carry i s) m q (omega arith) (omega arith) (f.2 ∙ ap (lift carried i) h) f.4
 
-  pub falls_before : (k u : ℕ) (c : List Item) (m q : ℕ) → k + m ≡ q → m < length c → Falls items k u c → Before carried (d (suc q) (finish u (take (suc m) c))) (d q (finish u (take (suc m) c)))
-  falls_before k u [] m q e l f = absurd (omega arith)
-  falls_before k u (i ∷ c) zero q e l f = let z : k ≡ q = omega arith in subst (λ (n : ℕ). Before carried (d (suc n) i.to) (d n i.to)) z f.3
-  falls_before k u (i ∷ c) (suc m) q e l f = falls_before (suc k) i.to c m q (omega arith) (omega arith) f.4
+  pub falls_before : (k u : ℕ) (c : List Item) (m q : ℕ) → k + m ≡ suc q → 0 < m → m ≤ length c → Falls items k u c → Before carried (d (suc q) (finish u (take m c))) (d q (finish u (take m c)))
+  falls_before k u c zero q e s l f = absurd (omega arith)
+  falls_before k u [] (suc m) q e s l f = absurd (omega arith)
+  falls_before k u (i ∷ c) (suc zero) q e s l f = let z : k ≡ q = omega arith in subst (λ (n : ℕ). Before carried (d (suc n) i.to) (d n i.to)) z f.3
+  falls_before k u (i ∷ c) (suc (suc m)) q e s l f = falls_before (suc k) i.to c (suc m) q (omega arith) (omega arith) (omega arith) f.4

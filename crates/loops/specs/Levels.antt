@@ -1,7 +1,7 @@
 -- Events of several levels. Each level has a period, which is a multiple of that of the level below, and an event lies
 -- on a multiple of its level's period. Two levels serve a plan: free events, of period 1, and frame events.
 use Rattle.std.specs.Prelude.{◌≡◌, ℕ, zero, suc, ◌+◌, ◌*◌, ◌<◌, ◌≤◌, cond, List, [], ◌∷◌, length, ℤ, pos, ◌+ℤ◌, ◌-ℤ◌, ◌≤ℤ◌, ◌==◌, slice_index}
-use Rattle.std.specs.List.{ContainsAt}
+use Rattle.std.specs.List.{Contains}
 use Rattle.search.specs.declared.item.Item.{Item}
 use Rattle.search.specs.Floor.{Multiple, floor}
 use Rattle.search.specs.Carried.{carry}
@@ -29,8 +29,8 @@ room levels = ranked levels (level levels 0) * product (ranked levels) (level le
 pub record Ordered (levels : List ℕ) (items : List Item) : Type 0 where
   pub some : 0 < length levels
   pub top : (v : ℕ) → level levels v ≤ level levels 0
-  pub begins : (i : Item) → ContainsAt items i → i.from < length levels
-  pub ends : (i : Item) → ContainsAt items i → i.to < length levels
+  pub begins : (i : Item) → Contains items i → i.from < length levels
+  pub ends : (i : Item) → Contains items i → i.to < length levels
 
 -- the periods of the levels
 pub record Periods (period : ℕ → ℤ) : Type 0 where
@@ -39,9 +39,9 @@ pub record Periods (period : ℕ → ℤ) : Type 0 where
 
 -- each item carries a time down to the period of the event where it leads
 abbrev pub Steps : (ℕ → ℤ) → List ℕ → List Item → Type 0
-Steps period levels items = (i : Item) → ContainsAt items i → (z : ℤ) → carry i z ≡ floor (period (level levels i.to)) (z +ℤ i.weight)
+Steps period levels items = (i : Item) → Contains items i → (z : ℤ) → carry i z ≡ floor (period (level levels i.to)) (z +ℤ i.weight)
 
 -- the times x keep the items
 pub record Keeps (period : ℕ → ℤ) (levels : List ℕ) (items : List Item) (x : ℕ → ℤ) : Type 0 where
   pub on_clock : (v : ℕ) → Multiple (period (level levels v)) (x v)
-  pub kept : (i : Item) → ContainsAt items i → (x i.to -ℤ x i.from) ≤ℤ i.weight
+  pub kept : (i : Item) → Contains items i → (x i.to -ℤ x i.from) ≤ℤ i.weight

@@ -1,6 +1,6 @@
 -- Loops of items that no times keep.
 use Rattle.std.specs.Prelude.{ℕ, ◌≤◌, List, [], ◌∷◌, ◌++◌, take, drop, ℤ, pos, ◌<ℤ◌, Some, None, Option}
-use Rattle.std.specs.List.{AllByRecursion}
+use Rattle.std.specs.List.{All}
 use Rattle.search.specs.declared.item.Item.{Item}
 use Rattle.search.specs.declared.values.CarriedTime.{CarriedTime}
 use Rattle.search.specs.Chains.{Leads, read}
@@ -20,7 +20,7 @@ time_at (Some t) = t.0
 pub record Reducing (levels : List ℕ) (items chain : List Item) : Type 0 where
   pub start : ℕ
   pub leads : Leads items start chain start
-  pub under : AllByRecursion (λ i. level levels i.to ≤ level levels start) chain
+  pub under : All (λ i. level levels i.to ≤ level levels start) chain
   pub falls : carries (pos 0) chain <ℤ pos 0
 
 -- the items of these numbers, one by one; a number past the items stands for none

@@ -1,6 +1,6 @@
 -- How the way back from a change is found, and the loop on it.
-use Rattle.std.specs.Prelude.{◌≡◌, ℕ, suc, ◌+◌, ◌<◌, ◌≤◌, ◌⊎◌, List, [], ◌∷◌, length, take, drop, Some, None, Option}
-use Rattle.std.specs.List.{ContainsAt, AllByRecursion}
+use Rattle.std.specs.Prelude.{◌≡◌, ℕ, suc, ◌-◌, ◌<◌, ◌≤◌, ◌⊎◌, List, [], ◌∷◌, length, take, drop, Some, None, Option}
+use Rattle.std.specs.List.{Contains, All}
 use Rattle.search.specs.declared.item.Item.{Item}
 use Rattle.search.specs.declared.values.CarriedTime.{CarriedTime}
 use Rattle.search.specs.Carried.{carried}
@@ -16,11 +16,11 @@ after items = best carried items 0
 abbrev pub Falls : List Item → ℕ → ℕ → List Item → Type 0
 Falls items k u [] = Unit {0}
 Falls items k u (i ∷ c) =
-    ContainsAt items i × (i.from ≡ u) × (after items (suc k) i.to ≡ lift carried i (after items k u)) × Before carried (after items (suc k) i.to) (after items k i.to) × Falls items (suc k) i.to c
+    Contains items i × (i.from ≡ u) × (after items (suc k) i.to ≡ lift carried i (after items k u)) × Before carried (after items (suc k) i.to) (after items k i.to) × Falls items (suc k) i.to c
 
 -- each number is that of an item
 abbrev pub Known : List Item → List ℕ → Type 0
-Known items numbers = AllByRecursion (λ n. n < length items) numbers
+Known items numbers = All (λ n. n < length items) numbers
 
 -- event `at` changed in round k, and the path from place k on goes on from there
 pub record Walked (items : List Item) (k at : ℕ) (path : List ℕ) : Type 0 where
@@ -54,7 +54,7 @@ pub record Closed (levels : List ℕ) (x : ℕ) (c : List Item) (count : ℕ) : 
   pub some : 0 < count
   pub within : count ≤ length c
   pub ends : finish x (take count c) ≡ x
-  pub under : AllByRecursion (λ i. level levels i.to ≤ level levels x) (take count c)
+  pub under : All (λ i. level levels i.to ≤ level levels x) (take count c)
 
 -- so many of the chain's first items lead back to where it begins, or none do
 abbrev pub Back : List ℕ → List Item → Option ℕ → Type 0
@@ -63,14 +63,14 @@ Back levels c (Some n) = Closed levels (start_of c) c n
 
 -- of the first items, none leads back to x, or to an event of a higher level
 pub record Scanned (levels : List ℕ) (items : List Item) (numbers : List ℕ) (x place : ℕ) : Type 0 where
-  pub under : AllByRecursion (λ i. level levels i.to ≤ level levels x) (picked items (take place numbers))
+  pub under : All (λ i. level levels i.to ≤ level levels x) (picked items (take place numbers))
   pub rest : Closes levels x (picked items numbers) → Closes levels x (picked items (drop place numbers))
 
 -- from place s on the path leads back to there
 abbrev pub ClosesAt : List ℕ → List Item → List ℕ → ℕ → Type 0
 ClosesAt levels items path s = Closes levels (start_of (picked items (drop s path))) (picked items (drop s path))
 
--- a part of the path leads back to where it begins
-pub record Found (levels : List ℕ) (items : List Item) (path : List ℕ) (first count : ℕ) : Type 0 where
-  pub inside : first + count ≤ length path
-  pub closed : Closed levels (start_of (picked items (drop first path))) (picked items (drop first path)) count
+-- a part of the path, from place s up to e, leads back to where it begins
+pub record Found (levels : List ℕ) (items : List Item) (path : List ℕ) (s e : ℕ) : Type 0 where
+  pub inside : (s ≤ e) × (e ≤ length path)
+  pub closed : Closed levels (start_of (picked items (drop s path))) (picked items (drop s path)) (e - s)

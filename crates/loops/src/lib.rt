@@ -3,4 +3,4 @@
 
 mod trace;
 
-pub use trace::{Part, loop_behind};
+pub use trace::loop_behind;

@@ -1,5 +1,5 @@
 //! The loop behind a change that comes too late.
-ghost use Rattle.std.specs.Prelude.{◌≡◌, ℕ, ◌+◌, ◌<◌, ◌≤◌, List, length, take, drop, ℤ, Option};
+ghost use Rattle.std.specs.Prelude.{◌≡◌, ℕ, ◌<◌, ◌≤◌, List, length, ℤ, Option, slice_range};
 ghost use Rattle.search.specs.declared.values.CarriedTime.{CarriedTime as Carried};
 ghost use Rattle.search.specs.Carried.{carried};
 ghost use Rattle.search.specs.Rounds.{Run};
@@ -8,13 +8,7 @@ ghost use Rattle.loops.specs.Loops.{Reducing, picked};
 ghost use Rattle.loops.specs.Walks.{Known, Path, Back, Found};
 
 use search::{Causes, Item};
-
-/// A part of a path: so many places from `first` on.
-#[derive(Clone, Copy)]
-pub struct Part {
-    pub first: usize,
-    pub count: usize,
-}
+use std::ops::Range;
 
 // The numbers of the items by which the event that changed last came to its reading, one a round, from the opening on.
 fn walk(items: &[Item], causes: &[Causes], last: usize, path: &mut [u16])
@@ -23,70 +17,79 @@ fn walk(items: &[Item], causes: &[Causes], last: usize, path: &mut [u16])
     ensures { Path items.now path.new }
 {
     let mut at = last;
-    for k in (0..path.len()).rev() {
-        let row = causes[k];
+    for (round, row) in causes.iter().enumerate().rev() {
         let number = row[at].unwrap();
         let item = items[number as usize];
-        path[k] = number;
+        // By index: of a `path` that is zipped and walked from behind, only the length would be known.
+        path[round] = number;
         at = item.from;
     }
 }
 
-// How many of the path's items lead back to where the first begins, with no event of a higher level on the way.
-fn back(items: &[Item], levels: &[u8], path: &[u16]) -> Option<usize>
-    requires some { 0 < length path.now }
-    requires known { Known items.now path.now }
-    requires ordered { Ordered levels.now items.now }
-    ensures { Back levels.now (picked items.now path.now) result }
-{
-    let first = items[path[0] as usize];
-    let level = levels[first.from];
-    for place in 0..path.len() {
-        let item = items[path[place] as usize];
-        if item.to == first.from {
-            return Some(place + 1);
-        }
-        if levels[item.to] > level {
-            return None;
-        }
-    }
-    None
+// Items, with the level of each event that they lead from or to.
+#[derive(Clone, Copy)]
+struct Leveled<'a> {
+    items: &'a [Item],
+    levels: &'a [u8],
+    ghost ordered: { Ordered levels.now items.now },
 }
 
-// The first loop on the path.
-fn find(items: &[Item], levels: &[u8], path: &[u16]) -> Part
-    requires ordered { Ordered levels.now items.now }
-    requires falls { Path items.now path.now }
-    requires long { room levels.now ≤ length path.now }
-    ensures { Found levels.now items.now path.now result.first result.count }
-{
-    for first in 0..path.len() {
-        if let Some(count) = back(items, levels, &path[first..]) {
-            return Part { first, count };
+impl Leveled<'_> {
+    // How many of the path's items lead back to where the first begins, with no event of a higher level on the way.
+    fn back(&self, path: &[u16]) -> Option<usize>
+        requires some { 0 < length path.now }
+        requires known { Known self.now.items.now path.now }
+        ensures { Back self.now.levels.now (picked self.now.items.now path.now) result }
+    {
+        let first = self.items[path[0] as usize];
+        let level = self.levels[first.from];
+        for (place, &number) in path.iter().enumerate() {
+            let item = self.items[number as usize];
+            if item.to == first.from {
+                return Some(place + 1);
+            }
+            if self.levels[item.to] > level {
+                return None;
+            }
         }
+        None
     }
-    unreachable()
+
+    // The first loop on the path.
+    fn find(&self, path: &[u16]) -> Range<usize>
+        requires falls { Path self.now.items.now path.now }
+        requires long { room self.now.levels.now ≤ length path.now }
+        ensures { Found self.now.levels.now self.now.items.now path.now result.start result.end }
+    {
+        // A range: its number cuts the path, and is the answer; `find_map` says no more and wants two functions for it.
+        for start in 0..path.len() {
+            if let Some(count) = self.back(&path[start..]) {
+                return start..start + count;
+            }
+        }
+        unreachable!()
+    }
 }
 
-/// The reducing loop behind a change in the last round that there is room for: a part of `path`, which gets the numbers
-/// of the items on the way to that change. `levels` has the level of each event.
+/// The reducing loop behind a change in the last round that there is room for: the range of a part of `path`, which gets
+/// the numbers of the items on the way to that change. `levels` has the level of each event.
 pub fn loop_behind(
     items: &[Item],
     levels: &[u8],
     causes: &[Causes],
     last: usize,
     path: &mut [u16],
-) -> Part
+) -> Range<usize>
     requires ordered { Ordered levels.now items.now }
     requires steps { (period : ℕ → ℤ) × Periods period × Steps period levels.now items.now }
     requires run { (layer : List (Option Carried)) × Run carried items.now 0 (length causes.now) layer causes.now last }
     requires full { length causes.now ≡ room levels.now }
     requires long { length path.old ≡ length causes.now }
-    ensures inside { result.first + result.count ≤ length path.new }
+    ensures inside { (result.start ≤ result.end) × (result.end ≤ length path.new) }
     ensures known { Known items.now path.new }
-    ensures reducing { Reducing levels.now items.now (picked items.now (take result.count (drop result.first path.new))) }
+    ensures reducing { Reducing levels.now items.now (picked items.now (slice_range path.new result.start result.end)) }
     ensures unkept { (period : ℕ → ℤ) → Periods period → Steps period levels.now items.now → (x : ℕ → ℤ) → Keeps period levels.now items.now x → ⊥ }
 {
     walk(items, causes, last, path);
-    find(items, levels, path)
+    Leveled { items, levels }.find(path)
 }

@@ -1,17 +1,11 @@
--- A call is answered by the book: what is left to show where it is granted, and where it is refused.
-use Rattle.std.proofs.Common.{◌≡◌, ℕ, ◌-◌, List, [], ◌∷◌, ◌++◌, length, take, ℤ, Some, None, Option, sym, ap, ◌∙◌, subst, inl, inr, arith}
+-- A call is answered by the book: what is left to show where it is refused for want of a timetable.
+use Rattle.std.proofs.Common.{◌≡◌, ℕ, ◌-◌, List, [], ◌∷◌, ◌++◌, length, take, ℤ, Some, None, Option, sym, ap, ◌∙◌, subst, inr, arith}
 use Rattle.std.proofs.lemmas.List.{length_push, take-append-le, take_all}
 use Rattle.book.specs.declared.mark.Mark.{Mark}
-use Rattle.book.specs.Book.{Book, Row, Gap, with_rows, with_gaps}
-use Rattle.planner.specs.Calls.{Call, Answer, refused, failed, wants, changed, granted, Refused, Answered, ByBook}
+use Rattle.book.specs.Book.{Book, Row, with_rows}
+use Rattle.planner.specs.Calls.{Call, Answer, refused, failed, wants, Refused, Answered, ByBook}
 
 module _ (b : Book) (c : Call) (a : Answer) (after : Book) where
-  pub by_grant : failed b c ≡ None → a ≡ granted b c → after ≡ changed b c → ByBook b c a after
-  by_grant h e f = subst (λ (o : Option ℕ). Answered b c o a after) (sym h) (inl (e, f))
-
-  pub by_check : (n : ℕ) → failed b c ≡ Some n → a ≡ refused n → after ≡ b → ByBook b c a after
-  by_check n h e f = subst (λ (o : Option ℕ). Answered b c o a after) (sym h) (e, f)
-
   pub by_want : (n : ℕ) → failed b c ≡ None → wants c ≡ Some n → a ≡ refused n → after ≡ b → ByBook b c a after
   by_want n h w e f = subst (λ (o : Option ℕ). Answered b c o a after) (sym h) (inr (subst (λ (o : Option ℕ). Refused b o a after) (sym w) (e, f)))
 
@@ -23,9 +17,6 @@ front_of_push xs x =
 
 pub rows_undone : (b x y : Book) (r : Row) → x ≡ with_rows b (b.rows ++ r ∷ []) → y ≡ with_rows x (take (length x.rows - 1) x.rows) → y ≡ b
 rows_undone b x y r e f = f ∙ (ap (λ (z : Book). with_rows z (take (length z.rows - 1) z.rows)) e ∙ ap (with_rows b) (front_of_push b.rows r))
-
-pub gaps_undone : (b x y : Book) (g : Gap) → x ≡ with_gaps b (b.gaps ++ g ∷ []) → y ≡ with_gaps x (take (length x.gaps - 1) x.gaps) → y ≡ b
-gaps_undone b x y g e f = f ∙ (ap (λ (z : Book). with_gaps z (take (length z.gaps - 1) z.gaps)) e ∙ ap (with_gaps b) (front_of_push b.gaps g))
 
 pub same_row : (m : Mark) (n k : List ℕ) (e f l h : ℤ) → n ≡ k → e ≡ f → l ≡ h → ◌≡◌ {A = Row} (record { name = n; mark = m; earliest = e; latest = l }) (record { name = k; mark = m; earliest = f; latest = h })
 same_row m n k e f l h p q r = cc

@@ -20,7 +20,7 @@ pub enum TextFault {
 }
 
 /// The first cause, from the text or from the plan's call, as it came.
-#[derive(Clone, Copy)]
+#[derive(Clone, Copy, Debug, PartialEq, Eq)]
 pub enum Cause {
     Text(TextFault),
     Plan(Refusal),
@@ -50,7 +50,7 @@ impl Cause {
 }
 
 /// What is wrong with a line: the field, 0 where it is no single field, and the cause.
-#[derive(Clone, Copy)]
+#[derive(Clone, Copy, Debug, PartialEq, Eq)]
 pub struct LineFault {
     pub field: usize,
     pub cause: Cause,
@@ -91,7 +91,7 @@ impl From<Refusal> for LineFault {
 }
 
 /// A load fault. Lines and fields are counted from 1; 0 where the fault has none.
-#[derive(Clone, Copy)]
+#[derive(Clone, Copy, Debug, PartialEq, Eq)]
 pub struct Fault {
     pub line: usize,
     pub field: usize,
@@ -99,7 +99,7 @@ pub struct Fault {
 }
 
 /// Why there is no plan: a fault, or no memory for one.
-#[derive(Clone, Copy)]
+#[derive(Clone, Copy, Debug, PartialEq, Eq)]
 pub enum LoadError {
     Fault(Fault),
     Memory,

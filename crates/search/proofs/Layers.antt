@@ -1,17 +1,17 @@
 -- What the rounds hold is the least that chains read.
-use Rattle.std.proofs.Common.{◌≡◌, ℕ, zero, suc, ◌+◌, ◌<◌, ◌≤◌, true, cond, eqb, ◌⊎◌, List, [], ◌∷◌, ◌++◌, length, Some, None, Option, sym, refl, ap, ◌∙◌, subst, inl, inr, ⊎_elim, arith}
+use Rattle.std.proofs.Common.{◌≡◌, ℕ, zero, suc, ◌+◌, ◌<◌, ◌≤◌, cond, eqb, ◌⊎◌, List, [], ◌∷◌, ◌++◌, length, Some, None, Option, sym, refl, ap, ◌∙◌, subst, inl, inr, ⊎_elim, arith}
 use mathlib.Core.Path.{fun_ext}
-use Rattle.std.specs.List.{ContainsAt}
+use Rattle.std.specs.List.{Contains}
 use Rattle.std.proofs.lemmas.List.{length_push, nil_from_length}
-use Rattle.std.proofs.lemmas.Bool.{cond_both, true≢false, eqb-true, eqb-false}
+use Rattle.std.proofs.lemmas.Bool.{cond_both, eqb-true, eqb-false}
 use Rattle.search.specs.declared.item.Item.{Item}
 use Rattle.search.specs.Limits.{most_rounds}
 use Rattle.search.specs.Kinds.{Kind, Laws, Le}
 use Rattle.search.specs.Chains.{Leads, read, Reads, LeastOf, Least, LeastEver, Settles}
-use Rattle.search.specs.Rounds.{Before, lift, least, pass, best, Steppable, Still}
-use Rattle.search.proofs.Passes.{has_cons}
+use Rattle.search.specs.Rounds.{AtMost, Before, lift, least, pass, best, Steppable, Still}
+use Rattle.search.proofs.Passes.{has_cons, most_refl, not_before}
 
-leads_push : (items : List Item) (a : ℕ) (c : List Item) (i : Item) → Leads items a c i.from → ContainsAt items i → Leads items a (c ++ i ∷ []) i.to
+leads_push : (items : List Item) (a : ℕ) (c : List Item) (i : Item) → Leads items a c i.from → Contains items i → Leads items a (c ++ i ∷ []) i.to
 leads_push items a [] i e h = (h, sym e, refl)
 leads_push items a (x ∷ c) i (hx, fx, l) h = (hx, fx, leads_push items x.to c i l h)
 
@@ -24,7 +24,7 @@ record Final (items : List Item) (a : ℕ) (c : List Item) (b : ℕ) : Type 0 wh
   front : List Item
   last : Item
   is : c ≡ front ++ last ∷ []
-  has : ContainsAt items last
+  has : Contains items last
   leads : Leads items a front last.from
   to : last.to ≡ b
 
@@ -43,14 +43,8 @@ record Brings {V : Type 0} (kind : Kind V) (row : ℕ → Option V) (j : ℕ) (v
 
 record Brought {V : Type 0} (kind : Kind V) (items : List Item) (row : ℕ → Option V) (j : ℕ) (v : V) : Type 0 where
   item : Item
-  has : ContainsAt items item
+  has : Contains items item
   brings : Brings kind row j v item
-
-some_apart : {V : Type 0} (o : Option V) (v : V) → o ≡ None → o ≡ Some v → ⊥
-some_apart o v p q = let z : ◌≡◌ {A = ℕ} 0 1 = cc in omega arith
-
-some_same : {V : Type 0} (o : Option V) (u v : V) → o ≡ Some u → o ≡ Some v → u ≡ v
-some_same o u v p q = cc
 
 module _ {V : Type 0} {kind : Kind V} {reached : ℕ → V → Type 0} (laws : Laws kind reached) where
   -- the least of P is the least of Q, where Q holds of more, but of nothing less
@@ -92,8 +86,8 @@ module _ {V : Type 0} {kind : Kind V} {reached : ℕ → V → Type 0} (laws : L
 
   module _ (row : ℕ → Option V) (j : ℕ) where
     brings_least : (i : Item) → i.to ≡ j → (o : Option V) → lift kind i (row i.from) ≡ o → LeastOf kind (λ v. Brings kind row j v i) o
-    brings_least i t None e = λ v b. some_apart (lift kind i (row i.from)) v e b.is
-    brings_least i t (Some w) e = (record { to = t; is = e }, λ v b. subst (Le kind w) (some_same (lift kind i (row i.from)) w v e b.is) (laws.same w))
+    brings_least i t None e = λ v b. cc
+    brings_least i t (Some w) e = (record { to = t; is = e }, λ v b. let same : w ≡ v = cc in subst (Le kind w) same (laws.same w))
 
     one_item : (P : V → Type 0) (acc : Option V) (i : Item) → LeastOf kind P acc → LeastOf kind (λ v. P v ⊎ Brings kind row j v i) (cond (eqb i.to j) (least kind acc (lift kind i (row i.from))) acc)
     one_item P acc i l =
@@ -110,7 +104,7 @@ module _ {V : Type 0} {kind : Kind V} {reached : ℕ → V → Type 0} (laws : L
       where
         onto : (v : V) → (P v ⊎ Brings kind row j v i) ⊎ Brought kind is row j v → P v ⊎ Brought kind (i ∷ is) row j v
         onto v (inl (inl a)) = inl a
-        onto v (inl (inr b)) = inr (record { item = i; has = (0, omega arith, λ _. refl); brings = b })
+        onto v (inl (inr b)) = inr (record { item = i; has = (0, omega arith, refl); brings = b })
         onto v (inr t) = inr (record { item = t.item; has = (suc t.has.0, omega (arith, t.has.1), t.has.2); brings = t.brings })
 
         back : (v : V) → P v ⊎ Brought kind (i ∷ is) row j v → (P v ⊎ Brings kind row j v i) ⊎ Brought kind is row j v
@@ -118,8 +112,8 @@ module _ {V : Type 0} {kind : Kind V} {reached : ℕ → V → Type 0} (laws : L
         back v (inr t) = ⊎_elim (λ e. inl (inr (subst (Brings kind row j v) (sym e) t.brings))) (λ h. inr (record { item = t.item; has = h; brings = t.brings })) (has_cons i is t.item t.has)
 
   lifted : (i : Item) (o : Option V) (v : V) → lift kind i o ≡ Some v → (u : V) × (o ≡ Some u) × (kind.stepped i u ≡ v)
-  lifted i None v e = absurd (some_apart None v refl e)
-  lifted i (Some u) v e = (u, refl, some_same (Some (kind.stepped i u)) (kind.stepped i u) v refl e)
+  lifted i None v e = cc
+  lifted i (Some u) v e = (u, refl, cc)
 
   module _ (items : List Item) (start : ℕ) where
     abbrev d : ℕ → ℕ → Option V
@@ -206,13 +200,7 @@ module _ {V : Type 0} {kind : Kind V} {reached : ℕ → V → Type 0} (laws : L
     pub still_settles : (n : ℕ) → Still kind items start n → Settles kind items start n
     still_settles n s j o p a b = least_unique (R n j) o (d n j) a (best-least n j) ∙ (sym (s j) ∙ least_unique (R (suc n) j) (d (suc n) j) p (best-least (suc n) j) b)
 
-    before_apart : (o p : Option V) → Before kind p o → o ≡ p → ⊥
-    before_apart None None b e = b
-    before_apart None (Some y) b e = some_apart None y refl e
-    before_apart (Some x) None b e = b
-    before_apart (Some x) (Some y) b e =
-        let f = some_same (Some x) x y refl e in
-        true≢false (sym (subst (λ (z : V). kind.before y z ≡ true) f b) ∙ laws.same y)
-
     pub falls_unsettled : (n v : ℕ) → Before kind (d (suc n) v) (d n v) → Settles kind items start n → ⊥
-    falls_unsettled n v b s = before_apart (d n v) (d (suc n) v) b (s v (d n v) (d (suc n) v) (best-least n v) (best-least (suc n) v))
+    falls_unsettled n v b s =
+        let same = s v (d n v) (d (suc n) v) (best-least n v) (best-least (suc n) v) in
+        not_before laws (d (suc n) v) (d n v) b (subst (AtMost kind (d n v)) same (most_refl laws (d n v)))

@@ -1,3 +1,4 @@
+pub mod Blanks
 pub mod Layers
 pub mod Passes
 mod Runs

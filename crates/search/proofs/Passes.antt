@@ -1,15 +1,16 @@
 -- One more item of a round.
-use Rattle.std.proofs.Common.{◌≡◌, ℕ, zero, suc, ◌+◌, ◌<◌, cond, eqb, ◌⊎◌, List, [], ◌∷◌, ◌++◌, length, get_or, take, set, replicate, Some, None, Option, sym, refl, ap, ◌∙◌, subst, inl, inr, arith}
-use Rattle.std.proofs.lemmas.Bool.{cases_eq, cases_lt, eq-eqb, ne_eqb, cond-true, cond-false, cond_both, true≢false, cases_Bool}
-use Rattle.std.proofs.lemmas.List.{length-set, get_or-set_same, get_or-set_other, take_more, get_or_past, get_or-replicate, length-replicate, get_or_read}
-use Rattle.std.specs.List.{ContainsAt}
+use Rattle.std.proofs.Common.{◌≡◌, ℕ, zero, suc, ◌+◌, ◌<◌, cond, eqb, ◌⊎◌, List, [], ◌∷◌, ◌++◌, length, get_or, take, set, replicate, Some, None, Option, sym, refl, ap, ◌∙◌, inl, inr, arith}
+use Rattle.std.proofs.lemmas.Bool.{cases_eq, eq-eqb, ne_eqb, cond-true, cond-false, cond_both, cases_Bool}
+use Rattle.std.proofs.lemmas.List.{length-set, get_or-set_same, get_or-set_other, take_more, length-replicate, get_or_read}
+use Rattle.std.specs.List.{Contains}
+use Rattle.search.proofs.Blanks.{get_or-replicate_same}
 use Rattle.search.specs.declared.item.Item.{Item}
 use Rattle.search.specs.Limits.{most_events}
 use Rattle.search.specs.Kinds.{Kind, Laws}
 use Rattle.search.specs.Rounds.{AtMost, Before, lift, least, pass, row_of, Cause, Why, Passed}
 
-pub has_cons : (i : Item) (is : List Item) (x : Item) → ContainsAt (i ∷ is) x → (i ≡ x) ⊎ ContainsAt is x
-has_cons i is x (zero, l, a) = inl (a x)
+pub has_cons : (i : Item) (is : List Item) (x : Item) → Contains (i ∷ is) x → (i ≡ x) ⊎ Contains is x
+has_cons i is x (zero, l, a) = inl a
 has_cons i is x (suc k, l, a) = inr (k, omega arith, a)
 
 pass_push : {V : Type 0} (kind : Kind V) (row : ℕ → Option V) (j : ℕ) (acc : Option V) (xs : List Item) (i : Item) → pass kind row j acc (xs ++ i ∷ []) ≡ cond (eqb i.to j) (least kind (pass kind row j acc xs) (lift kind i (row i.from))) (pass kind row j acc xs)
@@ -37,7 +38,7 @@ module _ {V : Type 0} {kind : Kind V} {reached : ℕ → V → Type 0} (laws : L
   before_most (Some x) None None b a = tt
   before_most (Some x) None (Some z) b a = absurd a
   before_most (Some x) (Some y) None b a = tt
-  before_most (Some x) (Some y) (Some z) b a = elim (cases_Bool (kind.before x z)) [ inl e ↦ e | inr e ↦ absurd (true≢false (sym b ∙ laws.trans y z x a e)) ]
+  before_most (Some x) (Some y) (Some z) b a = elim (cases_Bool (kind.before x z)) [ inl e ↦ e | inr e ↦ let t = laws.trans y z x a e in cc ]
 
   least_new : (a o : Option V) → Before kind o a → least kind a o ≡ o
   least_new None o b = refl
@@ -72,7 +73,7 @@ module _ {V : Type 0} {kind : Kind V} {reached : ℕ → V → Type 0} (laws : L
   not_before None None b a = b
   not_before None (Some y) b a = b
   not_before (Some x) None b a = a
-  not_before (Some x) (Some y) b a = true≢false (sym b ∙ a)
+  not_before (Some x) (Some y) b a = cc
 
   pub pass_acc : (row : ℕ → Option V) (j : ℕ) (acc : Option V) (xs : List Item) → AtMost kind (pass kind row j acc xs) acc
   pass_acc row j acc [] = most_refl acc
@@ -81,43 +82,38 @@ module _ {V : Type 0} {kind : Kind V} {reached : ℕ → V → Type 0} (laws : L
       (cond_both (eqb i.to j) (least kind acc (lift kind i (row i.from))) acc (λ o. AtMost kind o acc) (λ e. least_left acc (lift kind i (row i.from))) (λ e. most_refl acc))
 
   -- nor after what any of the items makes of the row
-  pub pass_has : (row : ℕ → Option V) (j : ℕ) (acc : Option V) (xs : List Item) (i : Item) → ContainsAt xs i → i.to ≡ j → AtMost kind (pass kind row j acc xs) (lift kind i (row i.from))
+  pub pass_has : (row : ℕ → Option V) (j : ℕ) (acc : Option V) (xs : List Item) (i : Item) → Contains xs i → i.to ≡ j → AtMost kind (pass kind row j acc xs) (lift kind i (row i.from))
   pass_has row j acc [] i h e = absurd (omega (arith, h.1))
   pass_has row j acc (x ∷ xs) i h e = elim (has_cons x xs i h) [
     | inl s ↦ most_most _ _ (lift kind i (row i.from)) (pass_acc row j (cond (eqb x.to j) (least kind acc (lift kind x (row x.from))) acc) xs)
-        (subst (λ (y : Item). AtMost kind (cond (eqb y.to j) (least kind acc (lift kind y (row y.from))) acc) (lift kind i (row i.from))) (sym s)
-        (subst (λ (o : Option V). AtMost kind o (lift kind i (row i.from))) (sym (cond-true (eqb i.to j) _ _ (eq-eqb i.to j e))) (least_right acc (lift kind i (row i.from)))))
+        (rw (s, eq-eqb i.to j e) (least_right acc (lift kind i (row i.from))))
     | inr t ↦ pass_has row j (cond (eqb x.to j) (least kind acc (lift kind x (row x.from))) acc) xs i t e
   ]
 
-  module _ (items : List Item) where
+  module _ {items : List Item} where
     -- before any item
-    pub passed_none : (layer next : List (Option V)) → length layer ≡ most_events → next ≡ layer → Passed kind items [] (row_of layer) next (replicate most_events None) None
-    passed_none layer next h e = record {
-      wide = ap length e ∙ h;
+    pub passed_none : (layer : List (Option V)) → length layer ≡ most_events → Passed kind items [] (row_of layer) layer (replicate most_events None) None
+    passed_none layer h = record {
+      wide = h;
       causes_wide = length-replicate {A = Option ℕ} most_events None;
-      layer = λ j. ap (λ (l : List (Option V)). row_of l j) e;
-      why = λ j. subst (λ (n : Option ℕ). Why kind items (row_of layer) (row_of next) j n) (sym (blank j)) (ap (λ (l : List (Option V)). row_of l j) e);
-      changes = λ j. ap (λ (l : List (Option V)). row_of l j) e;
+      layer = λ j. refl;
+      why = λ j. rw (get_or-replicate_same {A = Option ℕ} most_events j None);
+      changes = λ j. refl;
     }
-      where
-        blank : (j : ℕ) → get_or {A = Option ℕ} (replicate most_events None) j None ≡ None
-        blank j = elim (cases_lt j most_events) [ inl l ↦ get_or-replicate most_events j None None l | inr l ↦ get_or_past (replicate most_events None) j None (omega (arith, length-replicate {A = Option ℕ} most_events None)) ]
 
-    module _ (row : ℕ → Option V) (k : ℕ) (it : Item) (next : List (Option V)) (causes : List (Option ℕ)) (changed : Option ℕ) (h : k < length items) (is : it ≡ get_or items k it) (offered : Option V) (made : offered ≡ lift kind it (row it.from)) (before : Passed kind items (take k items) row next causes changed) where
+    module _ {row : ℕ → Option V} {k : ℕ} {it : Item} {next : List (Option V)} {causes : List (Option ℕ)} {changed : Option ℕ} {offered : Option V} (before : Passed kind items (take k items) row next causes changed) (h : k < length items) (is : it ≡ get_or items k it) (made : offered ≡ lift kind it (row it.from)) where
       more : (j : ℕ) → pass kind row j (row j) (take (k + 1) items) ≡ cond (eqb it.to j) (least kind (row_of next j) offered) (row_of next j)
-      more j =
-          ap (λ (xs : List Item). pass kind row j (row j) xs) (take_more items k it h ∙ ap (λ (x : Item). take k items ++ x ∷ []) (sym is))
-          ∙ (pass_push kind row j (row j) (take k items) it
-          ∙ (ap (λ (o : Option V). cond (eqb it.to j) (least kind o (lift kind it (row it.from))) o) (sym (before.layer j))
-          ∙ ap (λ (o : Option V). cond (eqb it.to j) (least kind (row_of next j) o) (row_of next j)) (sym made)))
+      more j = rw (take_more items k it h, ← is, pass_push, before.layer j, made)
 
       -- the item brings nothing better
       pub passed_keep : AtMost kind (row_of next it.to) offered → Passed kind items (take (k + 1) items) row next causes changed
       passed_keep a = record { wide = before.wide; causes_wide = before.causes_wide; layer = layer; why = before.why; changes = before.changes }
         where
           layer : (j : ℕ) → row_of next j ≡ pass kind row j (row j) (take (k + 1) items)
-          layer j = elim (cases_eq it.to j) [ inl e ↦ sym (more j ∙ (cond-true (eqb it.to j) _ _ (eq-eqb it.to j e) ∙ least_old (row_of next j) offered (subst (λ (v : ℕ). AtMost kind (row_of next v) offered) e a))) | inr e ↦ sym (more j ∙ cond-false (eqb it.to j) _ _ (ne_eqb it.to j e)) ]
+          layer j = elim (cases_eq it.to j) [
+            | inl e ↦ rw (more j, eq-eqb it.to j e, ← e, least_old (row_of next it.to) offered a)
+            | inr e ↦ rw (more j, ne_eqb it.to j e)
+          ]
 
       -- the item brings something better
       pub passed_put : it.to < most_events → Before kind offered (row_of next it.to) → Passed kind items (take (k + 1) items) row (set next it.to offered) (set causes it.to (Some k)) (Some it.to)
@@ -133,30 +129,23 @@ module _ {V : Type 0} {kind : Kind V} {reached : ℕ → V → Type 0} (laws : L
           there j n = get_or-set_other next it.to j offered None (λ e. n (sym e))
 
           fell : Before kind (row_of new it.to) (row it.to)
-          fell = subst (λ (o : Option V). Before kind o (row it.to)) (sym here)
-              (before_most offered (row_of next it.to) (row it.to) b (subst (λ (o : Option V). AtMost kind o (row it.to)) (sym (before.layer it.to)) (pass_acc row it.to (row it.to) (take k items))))
+          fell = rw here (before_most offered (row_of next it.to) (row it.to) b (rw (before.layer it.to) (pass_acc row it.to (row it.to) (take k items))))
 
           layer : (j : ℕ) → row_of new j ≡ pass kind row j (row j) (take (k + 1) items)
           layer j = elim (cases_eq it.to j) [
-            | inl e ↦ ap (row_of new) (sym e) ∙ (here ∙ sym (more j ∙ (cond-true (eqb it.to j) _ _ (eq-eqb it.to j e) ∙ least_new (row_of next j) offered (subst (λ (v : ℕ). Before kind offered (row_of next v)) e b))))
-            | inr e ↦ there j e ∙ sym (more j ∙ cond-false (eqb it.to j) _ _ (ne_eqb it.to j e))
+            | inl e ↦ rw (more j, eq-eqb it.to j e, ← e, least_new (row_of next it.to) offered b) here
+            | inr e ↦ rw (more j, ne_eqb it.to j e) (there j e)
           ]
 
           moved : (j : ℕ) (o : Option ℕ) → row_of new j ≡ row_of next j → Why kind items row (row_of next) j o → Why kind items row (row_of new) j o
           moved j None e w = e ∙ w
-          moved j (Some n) e w = record { item = w.item; known = w.known; at = w.at; ends = w.ends; is = e ∙ w.is; fell = subst (λ (o : Option V). Before kind o (row j)) (sym e) w.fell }
+          moved j (Some n) e w = record { item = w.item; known = w.known; at = w.at; ends = w.ends; is = e ∙ w.is; fell = rw e w.fell }
 
           mine : Cause kind items row (row_of new) it.to k
           mine = record { item = it; known = h; at = λ d. sym (get_or_read items k it h is d); ends = refl; is = here ∙ made; fell = fell }
 
           why : (j : ℕ) → Why kind items row (row_of new) j (get_or (set causes it.to (Some k)) j None)
           why j = elim (cases_eq it.to j) [
-            | inl e ↦ subst (λ (v : ℕ). Why kind items row (row_of new) v (get_or (set causes it.to (Some k)) v None)) e
-                (subst (λ (o : Option ℕ). Why kind items row (row_of new) it.to o) (sym (get_or-set_same causes it.to (Some k) None (omega (arith, before.causes_wide)))) mine)
-            | inr e ↦ subst (λ (o : Option ℕ). Why kind items row (row_of new) j o) (sym (get_or-set_other causes it.to j (Some k) None (λ f. e (sym f)))) (moved j (get_or causes j None) (there j e) (before.why j))
+            | inl e ↦ rw (← e, get_or-set_same causes it.to (Some k) None (omega (arith, before.causes_wide))) mine
+            | inr e ↦ rw (get_or-set_other causes it.to j (Some k) None (λ f. e (sym f))) (moved j (get_or causes j None) (there j e) (before.why j))
           ]
-
-pub passed_is : {V : Type 0} (kind : Kind V) (items seen : List Item) (row : ℕ → Option V) (next new : List (Option V)) (causes marks : List (Option ℕ)) (changed told : Option ℕ) →
-    new ≡ next → marks ≡ causes → told ≡ changed → Passed kind items seen row next causes changed → Passed kind items seen row new marks told
-passed_is {V} kind items seen row next new causes marks changed told a b c h =
-    subst (λ (n : List (Option V)). Passed kind items seen row n marks told) (sym a) (subst (λ (m : List (Option ℕ)). Passed kind items seen row next m told) (sym b) (subst (λ (t : Option ℕ). Passed kind items seen row next causes t) (sym c) h))

@@ -10,7 +10,7 @@ mod ties;
 mod values;
 
 pub use item::Item;
-pub use period::Period;
+pub use period::{Period, PeriodRange};
 pub use reading::Reading;
-pub use rounds::{Causes, Rounds, search};
+pub use rounds::{Causes, Rounds, Unsettled, search};
 pub use values::{CarriedTime, Framed, GapCount};

@@ -1,5 +1,5 @@
 //! A period in ticks, and the step down to it.
-ghost use Rattle.std.specs.Prelude.{◌≡◌, pos, neg_ℤ, ◌≤ℤ◌, MatchOption};
+ghost use Rattle.std.specs.Prelude.{◌≡◌, pos, neg_ℤ, ◌≤ℤ◌, MatchResult};
 ghost use Rattle.std.specs.Int.{int_rem_euclid};
 ghost use Rattle.search.specs.Limits.{most_period, deepest_sum};
 ghost use Rattle.search.specs.Floor.{floor, GreatestMultiple, FloorFacts};
@@ -13,17 +13,27 @@ pub struct Period {
     ghost short: { ticks ≤ℤ pos most_period },
 }
 
-impl Period {
-    /// The period of so many ticks, where there is one.
-    pub fn checked(ticks: i64) -> Option<Period>
-        ensures { MatchOption result ((pos 1 ≤ℤ ticks) × (ticks ≤ℤ pos most_period) → ⊥) (λ p. p.ticks ≡ ticks) }
-    {
-        if ticks < 1 || ticks > PERIOD {
-            return None;
-        }
-        Some(Period { ticks })
-    }
+/// A number of ticks that no period has.
+#[derive(Clone, Copy, Debug, PartialEq, Eq)]
+pub struct PeriodRange;
 
+/// The period of so many ticks, where there is one.
+impl TryFrom<i64> for Period {
+    type Error = PeriodRange;
+
+    ghost try_from_gives = { λ ticks r. MatchResult r (λ p. p.ticks ≡ ticks)
+        (λ _. (pos 1 ≤ℤ ticks) × (ticks ≤ℤ pos most_period) → ⊥) };
+
+    fn try_from(ticks: i64) -> Result<Self, PeriodRange> {
+        if (1..=PERIOD).contains(&ticks) {
+            Ok(Period { ticks })
+        } else {
+            Err(PeriodRange)
+        }
+    }
+}
+
+impl Period {
     /// The period of one tick.
     pub fn one() -> Period
         ensures { result.ticks ≡ pos 1 }

@@ -21,7 +21,7 @@ pub trait Reading: Copy {
         requires { (k : ℕ) × (k < most_rounds) × reached k self }
         ensures { result ≡ kind.stepped item.now self };
 
-    // Strictly before.
+    // Strictly before. No `Ord`: the kind's own order is the one that is stated, and a second would have to agree with it.
     fn before(self, other: Self) -> bool
         ensures { result ≡ kind.before self other };
 
@@ -50,6 +50,6 @@ impl Reading for CarriedTime {
     }
 
     fn before(self, other: CarriedTime) -> bool {
-        self.0 < other.0
+        self < other
     }
 }

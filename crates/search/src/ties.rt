@@ -23,7 +23,7 @@ impl Reading for GapCount {
     }
 
     fn before(self, other: GapCount) -> bool {
-        self.0 < other.0
+        self < other
     }
 }
 
@@ -44,6 +44,7 @@ impl Reading for Framed {
     }
 
     fn before(self, other: Framed) -> bool {
+        // The reverse of the order of `bool`.
         self.0 & !other.0
     }
 }

@@ -1,10 +1,10 @@
 -- What the search finds, as the solver's answer.
 use Rattle.std.proofs.Common.{◌≡◌, ℕ, ◌<◌, ◌≤◌, Bool, true, false, cond, ◌⊎◌, List, [], ◌∷◌, map, length, take, ℤ, pos, ◌-ℤ◌, ◌≤ℤ◌, ◌<ℤ◌, Some, Option, sym, refl, ap, ◌∙◌, subst, inl, inr, arith}
 use mathlib.Core.Path.{fun_ext}
-use Rattle.std.specs.List.{ContainsAt, AllByRecursion}
-use Rattle.std.proofs.ByRecursion.{all-has, All-weaker, all_has_itself}
+use Rattle.std.specs.List.{Contains, All}
 use Rattle.std.proofs.lemmas.Simd.{map-map}
 use Rattle.std.proofs.lemmas.List.{length-map, length-take, length-take-le, get_or-take, get_or_past}
+use Rattle.std.proofs.lemmas.List.Elements.{All-nil, All-cons, All-tail, All-weaker, All-contains, All-contains_itself}
 use Rattle.std.proofs.lemmas.Int.{ints}
 use Rattle.std.proofs.lemmas.Bool.{cases_Bool, cases_lt, cases_eq}
 use Rattle.search.specs.declared.item.Item.{Item as Searched}
@@ -34,7 +34,7 @@ tighter_table old new x g t = record {
   on_clock = λ j l e. subst (λ (p : ℤ). Multiple p (at x j)) g.period (t.on_clock j (inside j l) ((g.rows j l).stays_frame e));
   not_before = λ j p l. let a = (g.rows j l).not_before in let b = t.not_before j p (inside j l) in omega (arith, ints);
   not_after = λ j p l. let a = (g.rows j l).not_after in let b = t.not_after j p (inside j l) in omega (arith, ints);
-  gaps_kept = All-weaker (ContainsAt old.gaps) Kept (λ h k. all-has Kept new.gaps h t.gaps_kept (g.gaps h k)) old.gaps (all_has_itself old.gaps);
+  gaps_kept = All-weaker (Contains old.gaps) Kept (λ h k. All-contains Kept new.gaps h t.gaps_kept (g.gaps h k)) old.gaps (All-contains_itself old.gaps);
 }
   where
     Kept : Gap → Type 0
@@ -83,7 +83,7 @@ module _ (b : Book) (xs : List Searched) (all : Gathered b.period b.rows b.gaps 
         late e =
             let f = has_from b xs all (not_after v (row rows v)) (late_item b v (omega arith) (omega (arith, length_levels))) in
             let t = led_has levels xs (ordered b xs all one op) (clock b.period) p s made still f.0 f.1 (ap (λ (a : Item). a.from) f.2) in
-            (t.0, ap d (sym (ap (λ (a : Item). a.to) f.2)) ∙ t.1)
+            (t.0, subst (λ (u : ℕ). d u ≡ Some (time t.0)) (ap (λ (a : Item). a.to) f.2) t.1)
 
     rest : (v : ℕ) → length rows ≤ v → at times v ≡ pos 0
     rest v l = time_is v ∙ ap time_at (beyond levels xs (ordered b xs all one op) made v (omega (arith, length_levels)))
@@ -124,27 +124,31 @@ module _ (b : Book) (xs : List Searched) (all : Gathered b.period b.rows b.gaps 
 
   -- ---- there is none
 
+  abbrev Free : Item → Type 0
+  Free a = framed rows a.to ≡ false
+
   -- a chain that meets nothing above the level of a free event meets no frame event
-  free_chain : (u w : ℕ) (c : List Searched) → found.Leads xs u c w → AllByRecursion (λ i. level levels i.to ≤ 0) c → AllByRecursion (λ (a : Item). framed rows a.to ≡ false) (map item_of c)
-  free_chain u w [] l a = tt
-  free_chain u w (i ∷ c) l a = (elim (cases_Bool (framed rows i.to)) [ inl e ↦ absurd (high e) | inr e ↦ e ], free_chain i.to w c l.2 a.1)
+  free_chain : (u w : ℕ) (c : List Searched) → found.Leads xs u c w → All (λ i. level levels i.to ≤ 0) c → All Free (map item_of c)
+  free_chain u w [] l a = All-nil Free
+  free_chain u w (i ∷ c) l a =
+      All-cons Free (item_of i) (map item_of c) (elim (cases_Bool (framed rows i.to)) [ inl e ↦ absurd (high e) | inr e ↦ e ]) (free_chain i.to w c l.2 (All-tail (λ (j : Searched). level levels j.to ≤ 0) i c a))
     where
       high : framed rows i.to ≡ true → ⊥
-      high e = let k : level levels i.to ≡ 1 = level_at rows i.to (marked_of b xs all i l.0).ends ∙ ap (λ (t : Bool). cond t 1 0) e in let h = a.0 in omega arith
+      high e = let k : level levels i.to ≡ 1 = level_at rows i.to (marked_of b xs all i l.0).ends ∙ ap (λ (t : Bool). cond t 1 0) e in let h = a 0 i (omega arith) in omega arith
 
   some_item : (c : List Searched) → carries (pos 0) c <ℤ pos 0 → 0 < length c
   some_item [] f = absurd (omega (arith, ints))
   some_item (i ∷ c) f = omega arith
 
-  begins : (c : List Searched) (r : Reducing levels xs c) → (framed rows r.start ≡ true) ⊎ AllByRecursion (λ (a : Item). framed rows a.to ≡ false) (map item_of c)
-  begins [] r = inr tt
+  begins : (c : List Searched) (r : Reducing levels xs c) → (framed rows r.start ≡ true) ⊎ All Free (map item_of c)
+  begins [] r = inr (All-nil Free)
   begins (i ∷ c) r = elim (cases_Bool (framed rows r.start)) [ inl e ↦ inl e | inr e ↦ inr (free e) ]
     where
-      free : framed rows r.start ≡ false → AllByRecursion (λ (a : Item). framed rows a.to ≡ false) (map item_of (i ∷ c))
+      free : framed rows r.start ≡ false → All Free (map item_of (i ∷ c))
       free e =
           let l : r.start < length rows = subst (λ (v : ℕ). v < length rows) r.leads.1 (marked_of b xs all i r.leads.0).begins in
           let k : level levels r.start ≡ 0 = level_at rows r.start l ∙ ap (λ (t : Bool). cond t 1 0) e in
-          free_chain r.start r.start (i ∷ c) r.leads (subst (λ (m : ℕ). AllByRecursion (λ j. level levels j.to ≤ m) (i ∷ c)) k r.under)
+          free_chain r.start r.start (i ∷ c) r.leads (subst (λ (m : ℕ). All (λ j. level levels j.to ≤ m) (i ∷ c)) k r.under)
 
   pub refused : (count : ℕ) (codes : List ℕ) → Recorded levels xs count codes → count ≤ bound b →
       ((period : ℕ → ℤ) → Periods period → Steps period levels xs → (x : ℕ → ℤ) → Keeps period levels xs x → ⊥) → Refused b (take count codes)

@@ -1,7 +1,7 @@
 mod Answered
-mod Blanks
-mod Copies
+mod Made
 mod Numbered
+mod ProblemFacts
 mod Products
 mod Records
 mod Spans

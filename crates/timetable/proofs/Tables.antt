@@ -1,8 +1,8 @@
 -- A book at two levels, and its timetables as times that keep the searched items.
-use Rattle.std.proofs.Common.{◌≡◌, ℕ, zero, suc, ◌+◌, ◌<◌, ◌≤◌, Bool, true, false, cond, List, [], ◌∷◌, ◌++◌, length, drop, ℤ, pos, ◌+ℤ◌, ◌-ℤ◌, ◌≤ℤ◌, sym, refl, ap, ◌∙◌, subst, inl, inr, arith}
-use Rattle.std.specs.List.{ContainsAt, AllByRecursion}
-use Rattle.std.proofs.ByRecursion.{all-has, All-weaker, all_has_itself, All-append, has_append_right}
+use Rattle.std.proofs.Common.{◌≡◌, ℕ, zero, suc, ◌+◌, ◌<◌, ◌≤◌, Bool, true, false, cond, List, [], ◌∷◌, length, drop, ℤ, pos, ◌+ℤ◌, ◌-ℤ◌, ◌≤ℤ◌, sym, refl, ap, ◌∙◌, subst, inl, inr, arith}
+use Rattle.std.specs.List.{Contains, All}
 use Rattle.std.proofs.lemmas.List.{length-map, get_or_past}
+use Rattle.std.proofs.lemmas.List.Elements.{All-nil, All-cons, All-tail, All-drop, All-append, All-weaker, All-contains, All-contains_itself, Contains-append_left, Contains-append_right}
 use Rattle.std.proofs.lemmas.Int.{ints}
 use Rattle.std.proofs.lemmas.Bool.{cases_Bool, cases_lt, cond-true, cond-false}
 use Rattle.search.specs.declared.item.Item.{Item as Searched}
@@ -12,8 +12,8 @@ use Rattle.search.specs.Floors.{floor_facts}
 use Rattle.loops.specs.Levels.{level, Ordered, Periods, Steps, Keeps}
 use Rattle.book.specs.Book.{Book, Row, Gap, is_frame, row, framed, opens}
 use Rattle.timetable.specs.Timetable.{at, Timetable}
-use Rattle.timetable.specs.Chains.{Item, gap_items, not_after, edge_items, items}
-use Rattle.timetable.specs.Gathered.{item_of, Marked, Gathered, level_of, levels_of}
+use Rattle.timetable.specs.Chains.{Item, gap_items, not_before, not_after, edge_items, items}
+use Rattle.timetable.specs.Gathered.{item_of, gap_item, Marked, Gathered, level_of, levels_of}
 use Rattle.timetable.proofs.Spans.{top_level}
 use Rattle.timetable.proofs.Transfers.{marked_of, has_to, has_from}
 
@@ -65,62 +65,59 @@ Kept x a = (x a.to -ℤ x a.from) ≤ℤ a.weight
 abbrev GapKept : (ℕ → ℤ) → Gap → Type 0
 GapKept x g = (x g.to -ℤ x g.from) ≤ℤ g.width
 
-gaps_to : (x : ℕ → ℤ) (k : ℕ) (gaps : List Gap) → AllByRecursion (GapKept x) gaps → AllByRecursion (Kept x) (gap_items k gaps)
-gaps_to x k [] a = tt
-gaps_to x k (g ∷ gs) a = (a.0, gaps_to x (suc k) gs a.1)
+gaps_to : (x : ℕ → ℤ) (k : ℕ) (gaps : List Gap) → All (GapKept x) gaps → All (Kept x) (gap_items k gaps)
+gaps_to x k [] a = All-nil (Kept x)
+gaps_to x k (g ∷ gs) a = All-cons (Kept x) (gap_item k g) (gap_items (suc k) gs) (a 0 g (omega arith)) (gaps_to x (suc k) gs (All-tail (GapKept x) g gs a))
 
-gaps_from : (x : ℕ → ℤ) (k : ℕ) (gaps : List Gap) → AllByRecursion (Kept x) (gap_items k gaps) → AllByRecursion (GapKept x) gaps
-gaps_from x k [] a = tt
-gaps_from x k (g ∷ gs) a = (a.0, gaps_from x (suc k) gs a.1)
+gaps_from : (x : ℕ → ℤ) (k : ℕ) (gaps : List Gap) → All (Kept x) (gap_items k gaps) → All (GapKept x) gaps
+gaps_from x k [] a = All-nil (GapKept x)
+gaps_from x k (g ∷ gs) a = All-cons (GapKept x) g gs (a 0 (gap_item k g) (omega arith)) (gaps_from x (suc k) gs (All-tail (Kept x) (gap_item k g) (gap_items (suc k) gs) a))
 
 -- event n is within the window of row k
 abbrev Within : (ℕ → ℤ) → List Row → ℕ → ℕ → Type 0
 Within x rows k n = ((row rows k).earliest ≤ℤ x n) × (x n ≤ℤ (row rows k).latest)
 
-edges_to : (x : ℕ → ℤ) → x 0 ≡ pos 0 → (j : ℕ) (rows : List Row) → ((k n : ℕ) → n ≡ j + k → k < length rows → Within x rows k n) → AllByRecursion (Kept x) (edge_items j rows)
-edges_to x o j [] h = tt
-edges_to x o j (r ∷ rs) h = let w = h 0 j (omega arith) (omega arith) in let a = w.0 in let b = w.1 in (omega (arith, ints), (omega (arith, ints), edges_to x o (suc j) rs (λ k n e l. h (suc k) n (omega arith) (omega arith))))
+edges_to : (x : ℕ → ℤ) → x 0 ≡ pos 0 → (j : ℕ) (rows : List Row) → ((k n : ℕ) → n ≡ j + k → k < length rows → Within x rows k n) → All (Kept x) (edge_items j rows)
+edges_to x o j [] h = All-nil (Kept x)
+edges_to x o j (r ∷ rs) h =
+    let w = h 0 j (omega arith) (omega arith) in
+    let a = w.0 in
+    let b = w.1 in
+    let rest = edges_to x o (suc j) rs (λ k n e l. h (suc k) n (omega arith) (omega arith)) in
+    All-cons (Kept x) (not_before j r) (not_after j r ∷ edge_items (suc j) rs) (omega (arith, ints)) (All-cons (Kept x) (not_after j r) (edge_items (suc j) rs) (omega (arith, ints)) rest)
 
-edges_from : (x : ℕ → ℤ) → x 0 ≡ pos 0 → (j : ℕ) (rows : List Row) → AllByRecursion (Kept x) (edge_items j rows) → (k n : ℕ) → n ≡ j + k → k < length rows → Within x rows k n
+edges_from : (x : ℕ → ℤ) → x 0 ≡ pos 0 → (j : ℕ) (rows : List Row) → All (Kept x) (edge_items j rows) → (k n : ℕ) → n ≡ j + k → k < length rows → Within x rows k n
 edges_from x o j [] a k n e l = absurd (omega arith)
 edges_from x o j (r ∷ rs) a zero n e l =
     let z : j ≡ n = omega arith in
-    let p = a.0 in
-    let q = a.1.0 in
+    let p = a 0 (not_before j r) (omega arith) in
+    let q = a 1 (not_after j r) (omega arith) in
     subst (λ (m : ℕ). (r.earliest ≤ℤ x m) × (x m ≤ℤ r.latest)) z (omega (arith, ints), omega (arith, ints))
-edges_from x o j (r ∷ rs) a (suc k) n e l = edges_from x o (suc j) rs a.1.1 k n (omega arith) (omega arith)
+edges_from x o j (r ∷ rs) a (suc k) n e l = edges_from x o (suc j) rs (All-drop (Kept x) 2 (edge_items j (r ∷ rs)) a) k n (omega arith) (omega arith)
 
 -- the same from event 1 on, by number
-windows_to : (x : ℕ → ℤ) → x 0 ≡ pos 0 → (rows : List Row) → ((j : ℕ) → 0 < j → j < length rows → Within x rows j j) → AllByRecursion (Kept x) (edge_items 1 (drop 1 rows))
-windows_to x o [] h = tt
+windows_to : (x : ℕ → ℤ) → x 0 ≡ pos 0 → (rows : List Row) → ((j : ℕ) → 0 < j → j < length rows → Within x rows j j) → All (Kept x) (edge_items 1 (drop 1 rows))
+windows_to x o [] h = All-nil (Kept x)
 windows_to x o (r ∷ rs) h = edges_to x o 1 rs (λ k n e l. let z : suc k ≡ n = omega arith in subst (λ (m : ℕ). Within x rs k m) z (h (suc k) (omega arith) (omega arith)))
 
-windows_from : (x : ℕ → ℤ) → x 0 ≡ pos 0 → (rows : List Row) → AllByRecursion (Kept x) (edge_items 1 (drop 1 rows)) → (j : ℕ) → 0 < j → j < length rows → Within x rows j j
+windows_from : (x : ℕ → ℤ) → x 0 ≡ pos 0 → (rows : List Row) → All (Kept x) (edge_items 1 (drop 1 rows)) → (j : ℕ) → 0 < j → j < length rows → Within x rows j j
 windows_from x o [] a j p l = absurd (omega arith)
 windows_from x o (r ∷ rs) a zero p l = absurd (omega arith)
 windows_from x o (r ∷ rs) a (suc k) p l = edges_from x o 1 rs a k (suc k) (omega arith) (omega arith)
 
 -- the not_after edge of event j is one of the items
-has_late : (j : ℕ) (rows : List Row) (k n : ℕ) → n ≡ j + k → k < length rows → ContainsAt (edge_items j rows) (not_after n (row rows k))
+has_late : (j : ℕ) (rows : List Row) (k n : ℕ) → n ≡ j + k → k < length rows → Contains (edge_items j rows) (not_after n (row rows k))
 has_late j [] k n e l = absurd (omega arith)
-has_late j (r ∷ rs) zero n e l = let z : j ≡ n = omega arith in subst (λ (m : ℕ). ContainsAt (edge_items j (r ∷ rs)) (not_after m r)) z (1, omega arith, λ d. refl)
+has_late j (r ∷ rs) zero n e l = let z : j ≡ n = omega arith in subst (λ (m : ℕ). Contains (edge_items j (r ∷ rs)) (not_after m r)) z (1, omega arith, refl)
 has_late j (r ∷ rs) (suc k) n e l = let t = has_late (suc j) rs k n (omega arith) (omega arith) in (suc (suc t.0), omega (arith, t.1), t.2)
 
-pub late_item : (b : Book) (j : ℕ) → 0 < j → j < length b.rows → ContainsAt (items b) (not_after j (row b.rows j))
-late_item b j p l = has_append_right (gap_items 0 b.gaps) (edge_items 1 (drop 1 b.rows)) (not_after j (row b.rows j)) (go b.rows j p l)
+pub late_item : (b : Book) (j : ℕ) → 0 < j → j < length b.rows → Contains (items b) (not_after j (row b.rows j))
+late_item b j p l = Contains-append_right (gap_items 0 b.gaps) (edge_items 1 (drop 1 b.rows)) (not_after j (row b.rows j)) (go b.rows j p l)
   where
-    go : (rows : List Row) (j : ℕ) → 0 < j → j < length rows → ContainsAt (edge_items 1 (drop 1 rows)) (not_after j (row rows j))
+    go : (rows : List Row) (j : ℕ) → 0 < j → j < length rows → Contains (edge_items 1 (drop 1 rows)) (not_after j (row rows j))
     go [] j p l = absurd (omega arith)
     go (r ∷ rs) zero p l = absurd (omega arith)
     go (r ∷ rs) (suc k) p l = has_late 1 rs k (suc k) (omega arith) (omega arith)
-
-all_left : (P : Item → Type 0) (xs ys : List Item) → AllByRecursion P (xs ++ ys) → AllByRecursion P xs
-all_left P [] ys a = tt
-all_left P (x ∷ xs) ys a = (a.0, all_left P xs ys a.1)
-
-all_right : (P : Item → Type 0) (xs ys : List Item) → AllByRecursion P (xs ++ ys) → AllByRecursion P ys
-all_right P [] ys a = a
-all_right P (x ∷ xs) ys a = all_right P xs ys a.1
 
 -- ---- with the searched items
 
@@ -180,10 +177,10 @@ module _ (b : Book) (xs : List Searched) (all : Gathered b.period b.rows b.gaps 
   pub keeps_of : (x : List ℤ) → Timetable b x → Keeps (clock b.period) levels xs (at x)
   keeps_of x t = record {
     on_clock = λ v. on_level v (at x v) (t.on_clock v);
-    kept = λ i h. all-has (Kept (at x)) (items b) (item_of i) kept (has_to b xs all i h);
+    kept = λ i h. All-contains (Kept (at x)) (items b) (item_of i) kept (has_to b xs all i h);
   }
     where
-      kept : AllByRecursion (Kept (at x)) (items b)
+      kept : All (Kept (at x)) (items b)
       kept = All-append (Kept (at x)) (gap_items 0 b.gaps) (edge_items 1 (drop 1 rows)) (gaps_to (at x) 0 b.gaps t.gaps_kept) (windows_to (at x) t.opens rows (λ j p l. (t.not_before j p l, t.not_after j p l)))
 
   pub table_of : (x : List ℤ) → length x ≡ length rows → at x 0 ≡ pos 0 → Keeps (clock b.period) levels xs (at x) → Timetable b x
@@ -193,11 +190,11 @@ module _ (b : Book) (xs : List Searched) (all : Gathered b.period b.rows b.gaps 
     on_clock = λ j l e. subst (λ (m : ℕ). Multiple (clock b.period m) (at x j)) (level_at rows j l ∙ ap (λ (f : Bool). cond f 1 0) e) (k.on_clock j);
     not_before = λ j p l. (window j p l).0;
     not_after = λ j p l. (window j p l).1;
-    gaps_kept = gaps_from (at x) 0 b.gaps (all_left (Kept (at x)) (gap_items 0 b.gaps) (edge_items 1 (drop 1 rows)) kept);
+    gaps_kept = gaps_from (at x) 0 b.gaps (those (gap_items 0 b.gaps) (Contains-append_left (gap_items 0 b.gaps) (edge_items 1 (drop 1 rows))));
   }
     where
-      kept : AllByRecursion (Kept (at x)) (items b)
-      kept = All-weaker (ContainsAt (items b)) (Kept (at x)) (λ a h. let t = has_from b xs all a h in subst (Kept (at x)) t.2 (k.kept t.0 t.1)) (items b) (all_has_itself (items b))
+      those : (part : List Item) → ((a : Item) → Contains part a → Contains (items b) a) → All (Kept (at x)) part
+      those part h = All-weaker (Contains part) (Kept (at x)) (λ a i. let t = has_from b xs all a (h a i) in subst (Kept (at x)) t.2 (k.kept t.0 t.1)) part (All-contains_itself part)
 
       window : (j : ℕ) → 0 < j → j < length rows → Within (at x) rows j j
-      window = windows_from (at x) o rows (all_right (Kept (at x)) (gap_items 0 b.gaps) (edge_items 1 (drop 1 rows)) kept)
+      window = windows_from (at x) o rows (those (edge_items 1 (drop 1 rows)) (Contains-append_right (gap_items 0 b.gaps) (edge_items 1 (drop 1 rows))))

@@ -1,8 +1,8 @@
 -- What is found along chains of searched items, in the book's own terms.
 use Rattle.std.proofs.Common.{◌≡◌, ℕ, zero, suc, Bool, cond, List, [], ◌∷◌, map, length, ℤ, pos, ◌+ℤ◌, Some, None, Option, sym, refl, ap, ◌∙◌, subst, arith}
-use Rattle.std.specs.List.{ContainsAt}
-use Rattle.std.proofs.ByRecursion.{all-has}
-use Rattle.std.proofs.lemmas.List.{length-map}
+use Rattle.std.specs.List.{Contains}
+use Rattle.std.proofs.lemmas.List.{length-map, get_or-map}
+use Rattle.std.proofs.lemmas.List.Elements.{All-contains}
 use Rattle.std.proofs.lemmas.Int.{ints}
 use Rattle.search.specs.declared.item.Item.{Item as Searched}
 use Rattle.search.specs.declared.values.CarriedTime.{CarriedTime}
@@ -17,14 +17,12 @@ use Rattle.book.specs.Book.{Book}
 use Rattle.timetable.specs.Chains.{Item, items, Leads, step, read, Reads, LeastWithin, LeastReading, SettledAt}
 use Rattle.timetable.specs.Gathered.{item_of, Marked, Gathered}
 
-has_map : (xs : List Searched) (i : Searched) → ContainsAt xs i → ContainsAt (map item_of xs) (item_of i)
-has_map [] i h = absurd (omega (arith, h.1))
-has_map (x ∷ xs) i (zero, l, e) = (0, omega arith, λ d. ap item_of (e i))
-has_map (x ∷ xs) i (suc k, l, e) = let t = has_map xs i (k, omega arith, e) in (suc t.0, omega (arith, t.1), t.2)
+has_map : (xs : List Searched) (i : Searched) → Contains xs i → Contains (map item_of xs) (item_of i)
+has_map xs i (k, l, e) = (k, omega (arith, l, length-map xs item_of), get_or-map item_of xs k i (item_of i) l ∙ ap item_of e)
 
-has_back : (xs : List Searched) (a : Item) → ContainsAt (map item_of xs) a → (i : Searched) × ContainsAt xs i × (item_of i ≡ a)
+has_back : (xs : List Searched) (a : Item) → Contains (map item_of xs) a → (i : Searched) × Contains xs i × (item_of i ≡ a)
 has_back [] a h = absurd (omega (arith, h.1))
-has_back (x ∷ xs) a (zero, l, e) = (x, (0, omega arith, λ d. refl), e a)
+has_back (x ∷ xs) a (zero, l, e) = (x, (0, omega arith, refl), e)
 has_back (x ∷ xs) a (suc k, l, e) = let t = has_back xs a (k, omega arith, e) in (t.0, (suc t.1.0, omega (arith, t.1.1), t.1.2), t.2)
 
 -- a reading as a number
@@ -46,17 +44,17 @@ least_unique b n j (Some w) None l m = absurd (m w l.0)
 least_unique b n j (Some w) (Some x) l m = let a = l.1 x m.0 in let c = m.1 w l.0 in ap Some (omega (arith, ints))
 
 module _ (b : Book) (xs : List Searched) (all : Gathered b.period b.rows b.gaps xs) where
-  pub marked_of : (i : Searched) → ContainsAt xs i → Marked b.period b.rows i
-  marked_of i h = all-has (Marked b.period b.rows) xs i all.good h
+  pub marked_of : (i : Searched) → Contains xs i → Marked b.period b.rows i
+  marked_of i h = All-contains (Marked b.period b.rows) xs i all.good h
 
-  pub has_to : (i : Searched) → ContainsAt xs i → ContainsAt (items b) (item_of i)
-  has_to i h = subst (λ (is : List Item). ContainsAt is (item_of i)) all.same (has_map xs i h)
+  pub has_to : (i : Searched) → Contains xs i → Contains (items b) (item_of i)
+  has_to i h = subst (λ (is : List Item). Contains is (item_of i)) all.same (has_map xs i h)
 
-  pub has_from : (a : Item) → ContainsAt (items b) a → (i : Searched) × ContainsAt xs i × (item_of i ≡ a)
-  has_from a h = has_back xs a (subst (λ (is : List Item). ContainsAt is a) (sym all.same) h)
+  pub has_from : (a : Item) → Contains (items b) a → (i : Searched) × Contains xs i × (item_of i ≡ a)
+  has_from a h = has_back xs a (subst (λ (is : List Item). Contains is a) (sym all.same) h)
 
   -- the two ways to say what an item makes of a time
-  step_same : (i : Searched) → ContainsAt xs i → (z : ℤ) → step b (item_of i) z ≡ carry i z
+  step_same : (i : Searched) → Contains xs i → (z : ℤ) → step b (item_of i) z ≡ carry i z
   step_same i h z =
       let m = marked_of i h in
       ap (λ (f : Bool). cond f (floor b.period (z +ℤ i.weight)) (z +ℤ i.weight)) (sym m.marked) ∙ ap (λ (p : ℤ). cond i.framed (floor p (z +ℤ i.weight)) (z +ℤ i.weight)) (sym m.clock)

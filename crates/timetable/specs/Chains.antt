@@ -1,6 +1,6 @@
 -- Items, chains of items, what they read, and loops that cannot be kept.
 use Rattle.std.specs.Prelude.{◌≡◌, ℕ, suc, ◌+◌, ◌*◌, ◌<◌, ◌≤◌, true, false, cond, ◌⊎◌, List, [], ◌∷◌, ◌++◌, map, length, drop, ℤ, pos, ◌+ℤ◌, neg_ℤ, ◌≤ℤ◌, ◌<ℤ◌, Some, None, Option}
-use Rattle.std.specs.List.{ContainsAt, AllByRecursion}
+use Rattle.std.specs.List.{Contains, All}
 use Rattle.search.specs.Floor.{floor}
 use Rattle.book.specs.Limits.{code_not_before, code_not_after}
 use Rattle.book.specs.Book.{Book, Row, Gap, frames, frees, framed}
@@ -37,7 +37,7 @@ items b = gap_items 0 b.gaps ++ edge_items 1 (drop 1 b.rows)
 -- a chain of some of the items leads from event i to event j: each item leads on from where the one before it ended
 abbrev pub Leads : List Item → ℕ → List Item → ℕ → Type 0
 Leads all i [] j = i ≡ j
-Leads all i (a ∷ c) j = ContainsAt all a × (a.from ≡ i) × Leads all a.to c j
+Leads all i (a ∷ c) j = Contains all a × (a.from ≡ i) × Leads all a.to c j
 
 -- an item adds its weight; where it leads to a frame event, the sum goes down to the greatest multiple of the period
 -- that is not above it
@@ -85,5 +85,5 @@ pub record ReducingLoop (b : Book) (codes : List ℕ) : Type 0 where
   pub coded : map (λ (a : Item). a.code) chain ≡ codes
   pub some : 0 < length chain
   pub leads : Leads (items b) start chain start
-  pub begins : (framed b.rows start ≡ true) ⊎ AllByRecursion (λ (a : Item). framed b.rows a.to ≡ false) chain
+  pub begins : (framed b.rows start ≡ true) ⊎ All (λ (a : Item). framed b.rows a.to ≡ false) chain
   pub falls : read b (pos 0) chain <ℤ pos 0

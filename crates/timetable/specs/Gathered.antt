@@ -1,6 +1,6 @@
 -- How the items that are searched stand for those of the book.
 use Rattle.std.specs.Prelude.{◌≡◌, ℕ, ◌<◌, cond, List, ◌++◌, map, length, take, drop, ℤ, pos}
-use Rattle.std.specs.List.{AllByRecursion}
+use Rattle.std.specs.List.{All}
 use Rattle.search.specs.declared.item.Item.{Item as Searched}
 use Rattle.loops.specs.Loops.{Reducing}
 use Rattle.book.specs.Book.{Row, Gap, is_frame, framed}
@@ -8,6 +8,10 @@ use Rattle.timetable.specs.Chains.{Item, gap_items, edge_items}
 
 abbrev pub item_of : Searched → Item
 item_of i = record { from = i.from; to = i.to; weight = i.weight; code = i.code }
+
+-- the item of the gap, by this code
+abbrev pub gap_item : ℕ → Gap → Item
+gap_item k g = record { from = g.from; to = g.to; weight = g.width; code = k }
 
 abbrev pub items_of : List Row → List Gap → List Item
 items_of rows gaps = gap_items 0 gaps ++ edge_items 1 (drop 1 rows)
@@ -24,7 +28,7 @@ pub record Marked (period : ℤ) (rows : List Row) (i : Searched) : Type 0 where
 
 pub record Gathered (period : ℤ) (rows : List Row) (gaps : List Gap) (xs : List Searched) : Type 0 where
   pub same : map item_of xs ≡ items_of rows gaps
-  pub good : AllByRecursion (Marked period rows) xs
+  pub good : All (Marked period rows) xs
 
 -- the level of an event: 1 on the frame clock, 0 free
 abbrev pub level_of : Row → ℕ

@@ -1,6 +1,6 @@
 -- When one book asks more than another.
 use Rattle.std.specs.Prelude.{◌≡◌, ℕ, ◌<◌, true, length, ◌≤ℤ◌}
-use Rattle.std.specs.List.{ContainsAt}
+use Rattle.std.specs.List.{Contains}
 use Rattle.book.specs.Book.{Book, Row, Gap, is_frame, row}
 
 -- the new row asks all that the old one does: a frame event stays one, and the window lies within
@@ -14,7 +14,7 @@ pub record Tightens (old new : Book) : Type 0 where
   pub period : new.period ≡ old.period
   pub events : length new.rows ≡ length old.rows
   pub rows : (j : ℕ) → j < length old.rows → RowTightens (row old.rows j) (row new.rows j)
-  pub gaps : (g : Gap) → ContainsAt old.gaps g → ContainsAt new.gaps g
+  pub gaps : (g : Gap) → Contains old.gaps g → Contains new.gaps g
 
 -- the new book asks no more than the old one
 abbrev pub Loosens : Book → Book → Type 0

@@ -1,6 +1,6 @@
 -- What a timetable of a book is, and which of them is the latest.
 use Rattle.std.specs.Prelude.{◌≡◌, ℕ, ◌<◌, true, List, length, ℤ, pos, ◌-ℤ◌, ◌≤ℤ◌, slice_index_or}
-use Rattle.std.specs.List.{AllByRecursion}
+use Rattle.std.specs.List.{All}
 use Rattle.search.specs.Floor.{Multiple}
 use Rattle.book.specs.Book.{Book, Gap, row, framed}
 
@@ -16,7 +16,7 @@ pub record Timetable (b : Book) (x : List ℤ) : Type 0 where
   pub on_clock : (j : ℕ) → j < length b.rows → framed b.rows j ≡ true → Multiple b.period (at x j)
   pub not_before : (j : ℕ) → 0 < j → j < length b.rows → (row b.rows j).earliest ≤ℤ at x j
   pub not_after : (j : ℕ) → 0 < j → j < length b.rows → at x j ≤ℤ (row b.rows j).latest
-  pub gaps_kept : AllByRecursion (λ (g : Gap). (at x g.to -ℤ at x g.from) ≤ℤ g.width) b.gaps
+  pub gaps_kept : All (λ (g : Gap). (at x g.to -ℤ at x g.from) ≤ℤ g.width) b.gaps
 
 -- the book has a timetable
 abbrev pub Feasible : Book → Type 0

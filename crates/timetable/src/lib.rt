@@ -2,9 +2,8 @@
 #![tactic(auto)]
 
 mod found;
-mod items;
+mod problem;
 mod solver;
-mod trace;
 
 pub use found::{Found, Loop};
 pub use solver::solve;

@@ -7,7 +7,6 @@ ghost use Rattle.book.specs.Held.{row_of, gap_of, book_of};
 use crate::limits::{EVENTS, GAPS};
 use crate::mark::Mark;
 use crate::name::Name;
-use crate::name::spelled::same_bytes;
 use crate::row::{Gap, Row, Window};
 use crate::table::Table;
 use search::Period;
@@ -31,12 +30,7 @@ fn opening() -> Row
 fn named(rows: &[Row], name: &[u8]) -> Option<usize>
     ensures { Lookup (map row_of rows.now) name.now result }
 {
-    for (number, row) in rows.iter().enumerate() {
-        if same_bytes(row.name.as_bytes(), name) {
-            return Some(number);
-        }
-    }
-    None
+    rows.iter().position(|row| row.name.as_bytes() == name)
 }
 
 impl Table {
@@ -76,6 +70,8 @@ impl Table {
         }
         Some(Window { earliest, latest })
     }
+
+    // For rows and for gaps a method each: one call of the vector's own, with what it does to the book.
 
     /// Adds a row behind the others.
     pub fn push_row(&mut self, row: Row)

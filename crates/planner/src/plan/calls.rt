@@ -1,10 +1,9 @@
 //! The calls of a plan. Each makes its checks in their order; a refusal leaves the plan as it was.
-ghost use Rattle.std.specs.Prelude.{◌≡◌, true, false, replicate, pos, is_ok, IfOk, Some, None, MatchResult, slice_index_or};
-ghost use Rattle.book.specs.Limits.{most_events};
+ghost use Rattle.std.specs.Prelude.{◌≡◌, true, false, length, pos, IfOk, OnOk, OnErr, Some, None, MatchResult, slice_index_or, vec_len};
 ghost use Rattle.book.specs.Book.{fresh as fresh_book, Lookup};
 ghost use Rattle.book.specs.Held.{row_of, gap_of, book_of};
 ghost use Rattle.planner.specs.Calls.{make as make_call, event as event_call, gap as gap_call, known, failed, ByBook};
-ghost use Rattle.planner.specs.Plans.{plan_book, plan_times};
+ghost use Rattle.planner.specs.Plans.{plan_book, plan_times, IsAlone};
 ghost use Rattle.planner.specs.Refusals.{number_of, said_plain, said_number};
 
 use crate::plan::Plan;
@@ -17,8 +16,7 @@ use timetable::{Found, Loop, solve};
 
 // The timetable of the opening alone.
 fn alone() -> Found
-    ensures depth { result.depth ≡ 0 }
-    ensures times { result.times ≡ replicate most_events (pos 0) }
+    ensures { IsAlone result }
 {
     Found {
         depth: 0,
@@ -26,12 +24,16 @@ fn alone() -> Found
     }
 }
 
-// The latest timetable of the table, or a loop.
-fn solved(table: &Table) -> Result<Found, Loop> {
-    solve(table.period, table.rows.as_slice(), table.gaps.as_slice())
+// Puts the latest timetable of the table in place of the one found before. Where there is none, that one stays.
+fn retime(table: &Table, found: &mut Found) -> Result<(), Loop>
+    ensures { OnErr result (found.new ≡ found.old) }
+{
+    *found = solve(table.period, table.rows.as_slice(), table.gaps.as_slice())?;
+    Ok(())
 }
 
 // The row of a new event.
+#[tactic(auto, using(crate::proofs::Holds::rows_many))]
 fn row_of(
     table: &Table,
     name: &[u8],
@@ -44,9 +46,7 @@ fn row_of(
     if table.rows.len() >= EVENTS {
         return Err(Refusal::EventsFull);
     }
-    let Some(spelled) = Name::checked(name) else {
-        return Err(Refusal::NameForm);
-    };
+    let spelled = Name::try_from(name)?;
     if table.number_of(name).is_some() {
         return Err(Refusal::NameTaken);
     }
@@ -61,6 +61,7 @@ fn row_of(
 }
 
 // The new gap.
+#[tactic(auto, using(crate::proofs::Holds::rows_many, crate::proofs::Holds::gaps_many))]
 fn gap_of(table: &Table, from: usize, to: usize, width: i64) -> Result<Gap, Refusal>
     ensures { MatchResult result (λ x. (failed (book_of table.now) (gap_call from to width) ≡ None) × (gap_of x ≡ record { from = from; to = to; width = width })) (λ e. failed (book_of table.now) (gap_call from to width) ≡ Some (number_of e)) }
 {
@@ -70,7 +71,7 @@ fn gap_of(table: &Table, from: usize, to: usize, width: i64) -> Result<Gap, Refu
     if from == to {
         return Err(Refusal::GapSameEvent);
     }
-    if width < -WIDTH || width > WIDTH {
+    if !(-WIDTH..=WIDTH).contains(&width) {
         return Err(Refusal::GapWidth);
     }
     if table.gaps.len() >= GAPS {
@@ -82,7 +83,7 @@ fn gap_of(table: &Table, from: usize, to: usize, width: i64) -> Result<Gap, Refu
 impl Plan {
     /// A fresh plan, with all the memory that it will ever want: period 1, length 1 and the opening alone.
     pub fn fresh(heap: Global) -> Result<Plan, AllocError>
-        ensures { IfOk result (λ p. (plan_book p ≡ fresh_book) × (p.found.depth ≡ 0) × (p.found.times ≡ replicate most_events (pos 0))) }
+        ensures { IfOk result (λ p. (plan_book p ≡ fresh_book) × IsAlone p.found) }
     {
         let table = Table::fresh(heap)?;
         Ok(Plan {
@@ -94,16 +95,14 @@ impl Plan {
     /// Turns it into the opening alone, with this period and length.
     pub fn make(&mut self, period: i64, length: i64) -> Result<(), Refusal>
         ensures answer { ByBook (plan_book self.old) (make_call period length) (said_plain result) (plan_book self.new) }
-        ensures alone { is_ok result ≡ true → (self.new.found.depth ≡ 0) × (self.new.found.times ≡ replicate most_events (pos 0)) }
-        ensures stays { is_ok result ≡ false → self.new.found ≡ self.old.found }
+        ensures alone { OnOk result (IsAlone self.new.found) }
+        ensures stays { OnErr result (self.new.found ≡ self.old.found) }
     {
-        let Some(clock) = Period::checked(period) else {
-            return Err(Refusal::PeriodRange);
-        };
+        let clock = Period::try_from(period)?;
         if period > PERIOD {
             return Err(Refusal::PeriodRange);
         }
-        if length < 1 || length > LENGTH {
+        if !(1..=LENGTH).contains(&length) {
             return Err(Refusal::LengthRange);
         }
         self.table.make(clock, length);
@@ -111,7 +110,10 @@ impl Plan {
         Ok(())
     }
 
+    // The next two take the same steps; what is checked, put in, taken out and said differs in each.
+
     /// Adds an event, and answers its number.
+    #[tactic(auto, using(crate::proofs::Holds::rows_many, crate::proofs::Holds::room_for_row))]
     pub fn event(
         &mut self,
         name: &[u8],
@@ -120,51 +122,50 @@ impl Plan {
         latest: i64,
     ) -> Result<usize, Refusal>
         ensures answer { ByBook (plan_book self.old) (event_call name.now mark earliest latest) (said_number result) (plan_book self.new) }
-        ensures stays { is_ok result ≡ false → self.new.found ≡ self.old.found }
+        ensures stays { OnErr result (self.new.found ≡ self.old.found) }
     {
         let row = row_of(&self.table, name, mark, earliest, latest)?;
         let number = self.table.rows.len();
         self.table.push_row(row);
-        match solved(&self.table) {
-            Ok(found) => {
-                self.found = found;
-                Ok(number)
-            }
-            Err(behind) => {
-                self.table.pop_row();
-                Err(Refusal::EventUntimed(behind))
-            }
+        if let Err(behind) = retime(&self.table, &mut self.found) {
+            self.table.pop_row();
+            return Err(Refusal::EventUntimed(behind));
         }
+        Ok(number)
     }
 
     /// Adds a gap, and answers its number.
+    #[tactic(auto, using(crate::proofs::Holds::gaps_many, crate::proofs::Holds::room_for_gap))]
     pub fn gap(&mut self, from: usize, to: usize, width: i64) -> Result<usize, Refusal>
         ensures answer { ByBook (plan_book self.old) (gap_call from to width) (said_number result) (plan_book self.new) }
-        ensures stays { is_ok result ≡ false → self.new.found ≡ self.old.found }
+        ensures stays { OnErr result (self.new.found ≡ self.old.found) }
     {
         let gap = gap_of(&self.table, from, to, width)?;
         let number = self.table.gaps.len();
         self.table.push_gap(gap);
-        match solved(&self.table) {
-            Ok(found) => {
-                self.found = found;
-                Ok(number)
-            }
-            Err(behind) => {
-                self.table.pop_gap();
-                Err(Refusal::GapUntimed(behind))
-            }
+        if let Err(behind) = retime(&self.table, &mut self.found) {
+            self.table.pop_gap();
+            return Err(Refusal::GapUntimed(behind));
         }
+        Ok(number)
+    }
+
+    // The times of the events that are there, by number.
+    pub(super) fn times(&self) -> &[i64]
+        ensures is { result.now ≡ plan_times self.now }
+        ensures many { length result.now ≡ vec_len self.now.table.rows }
+    {
+        &self.found.times[0..self.table.rows.len()]
     }
 
     /// The time of an event.
     pub fn time(&self, event: usize) -> Result<i64, Refusal>
         ensures { MatchResult result (λ t. (known (plan_book self.now) event ≡ true) × (t ≡ slice_index_or (plan_times self.now) event (pos 0))) (λ e. (known (plan_book self.now) event ≡ false) × (number_of e ≡ 60)) }
     {
-        if event >= self.table.rows.len() {
-            return Err(Refusal::TimeUnknownEvent);
+        match self.times().get(event) {
+            Some(time) => Ok(*time),
+            None => Err(Refusal::TimeUnknownEvent),
         }
-        Ok(self.found.times[event])
     }
 
     /// How many items the chains have that the times rest on.

@@ -1,12 +1,11 @@
 //! A released scan: it can be read, and has to be closed once.
 ghost use Rattle.std.specs.Prelude.{◌≡◌, map, length, drop, pos, ◌≤ℤ◌};
-ghost use Rattle.book.specs.Book.{frames};
 ghost use Rattle.book.specs.Held.{row_of};
 ghost use Rattle.planner.specs.Plans.{plan_book, plan_times};
 ghost use Rattle.planner.specs.Closing.{is_reached, all_reached, Counted};
 
 use crate::plan::Plan;
-use book::Row;
+use book::{Row, frames};
 
 /// A plan that is not changed any more. It is no `Drop`: a program that lets one go without closing it is refused.
 pub struct Released {
@@ -15,7 +14,7 @@ pub struct Released {
 
 /// Of the frame events other than the opening: how many there are, and how many have a time of at most the closing
 /// tick.
-#[derive(Clone, Copy)]
+#[derive(Clone, Copy, Debug, PartialEq, Eq)]
 pub struct Closing {
     pub planned: usize,
     pub reached: usize,
@@ -28,31 +27,15 @@ fn is_reached(row: &Row, time: i64, tick: u64) -> bool
     row.mark.is_frame() && i128::from(time) <= i128::from(tick)
 }
 
-// How many frame events there are, the opening left out.
-fn count_planned(rows: &[Row]) -> usize
-    ensures { result ≡ frames (drop 1 (map row_of rows.now)) }
-{
-    let mut planned = 0usize;
-    for event in 1..rows.len() {
-        if rows[event].mark.is_frame() {
-            planned += 1;
-        }
-    }
-    planned
-}
-
 // How many events are reached, the opening left out.
 fn count_reached(rows: &[Row], times: &[i64], tick: u64) -> usize
-    requires { length times.now ≡ length rows.now }
     ensures { result ≡ all_reached tick (drop 1 (map row_of rows.now)) (drop 1 times.now) }
 {
-    let mut reached = 0usize;
-    for event in 1..rows.len() {
-        if is_reached(&rows[event], times[event], tick) {
-            reached += 1;
-        }
-    }
-    reached
+    rows.iter()
+        .zip(times)
+        .skip(1)
+        .filter(|(row, time)| is_reached(row, **time, tick))
+        .count()
 }
 
 impl Plan {
@@ -65,6 +48,7 @@ impl Plan {
 }
 
 /// What can be read of a released scan: its length, and the events and their times by number, and its depth.
+// Two slices, since a plan holds its times as the solver answered them, apart from its rows.
 #[derive(Clone, Copy)]
 pub struct View<'a> {
     pub length: i64,
@@ -83,13 +67,11 @@ impl Released {
         ensures many { length result.times.now ≡ length result.rows.now }
         ensures depth { result.depth ≡ self.now.plan.found.depth }
     {
-        let rows = self.plan.table.rows.as_slice();
-        let events = rows.len();
         View {
             length: self.plan.table.length,
-            rows,
-            times: &self.plan.found.times[0..events],
-            depth: self.plan.found.depth,
+            rows: self.plan.table.rows.as_slice(),
+            times: self.plan.times(),
+            depth: self.plan.depth(),
         }
     }
 
@@ -99,7 +81,7 @@ impl Released {
     {
         let view = self.view();
         Closing {
-            planned: count_planned(view.rows),
+            planned: frames(&view.rows[1..]),
             reached: count_reached(view.rows, view.times, tick),
         }
     }

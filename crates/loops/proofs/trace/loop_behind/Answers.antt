@@ -1,4 +1,4 @@
-use Rattle.std.proofs.Common.{take, drop}
+use Rattle.std.proofs.Common.{slice_range}
 use Rattle.loops.proofs.Cuts.{reduces}
 use Rattle.loops.proofs.Readings.{excludes}
 use Rattle.loops.specs.Loops.{Reducing, picked}
@@ -6,15 +6,7 @@ use Rattle.loops.proofs.trace.loop_behind.Goals as goal
 
 pub returns : goal.returns
 returns c =
-    let items = c.args.items.now in
-    let levels = c.args.levels.now in
-    let path = c.walk.new.path in
     let s = c.requires.steps in
-    let f = c.find.ensures in
-    let r : Reducing levels items (picked items (take c.find.result.count (drop c.find.result.first path))) = reduces levels items c.requires.ordered s.0 s.1 s.2 path c.walk.ensures c.find.result.first c.find.result.count f in
-    record {
-      inside = f.inside;
-      known = c.walk.ensures.known;
-      reducing = r;
-      unkept = λ period p steps x k. excludes period p levels items steps (picked items (take c.find.result.count (drop c.find.result.first path))) r x k;
-    }
+    let part = c.find.result in
+    let r : Reducing c.args.levels.now c.args.items.now (picked c.args.items.now (slice_range c.walk.new.path part.start part.end)) = reduces _ _ c.requires.ordered _ s.1 s.2 _ c.walk.ensures _ _ c.find.ensures in
+    record { inside = c.find.ensures.inside; known = c.walk.ensures.known; reducing = r; unkept = λ period p steps x k. excludes period p _ _ steps _ r x k }

@@ -1,35 +1,36 @@
-use Rattle.std.proofs.Common.{◌≡◌, ℕ, ◌+◌, ◌<◌, Bool, true, false, ◌||◌, List, map, length, get_or, drop, sym, ap, ◌∙◌, arith}
+use Rattle.std.proofs.Common.{◌≡◌, ℕ, ◌<◌, Bool, true, false, List, [], ◌∷◌, Option, None, Some, map, length, refl, ap, ◌∙◌, arith, rules, tests}
 use Rattle.std.specs.Str.{bytes_eq}
+use Rattle.std.specs.List.{AllWithin, HoldsAt}
+use Rattle.std.specs.Option.{MatchOption}
 use Rattle.std.proofs.lemmas.Slice.Eq.{bytes_eq-Decides}
-use Rattle.std.proofs.lemmas.List.{at_drop_all, at_drop_more, get_or-map, length-map}
+use Rattle.std.proofs.lemmas.Iterator.{IsFirst-from_position, YieldsList-from_slice}
+use Rattle.std.proofs.lemmas.List.{get_or-map, length-map}
+use Rattle.std.proofs.lemmas.List.Recursion.{or_is}
 use Rattle.book.specs.declared.row.Row.{Row as HeldRow}
-use Rattle.book.specs.Book.{Row, opening, has_name}
+use Rattle.book.specs.Book.{Row, opening, has_name, Lookup}
 use Rattle.book.specs.Held.{spelling, row_of}
 use Rattle.book.proofs.table.edits.named.Goals as goal
 
-abbrev has : List ℕ → List HeldRow → Bool
-has n xs = has_name (map row_of xs) n
+module _ (n : List ℕ) where
+  abbrev is_it : HeldRow → Bool
+  is_it r = bytes_eq (spelling r.name) n
 
--- at row i, whose name is n or is not
-at_row : (rows : List HeldRow) (n : List ℕ) (i : ℕ) (r : HeldRow) (b : Bool) → i < length rows → r ≡ get_or rows i r → b ≡ bytes_eq (spelling r.name) n → has n (drop i rows) ≡ (b || has n (drop (i + 1) rows))
-at_row rows n i r b l is t = at_drop_more (has n) rows i r l ∙ ap (λ (x : Bool). x || has n (drop (i + 1) rows)) (ap (λ (x : HeldRow). bytes_eq (spelling x.name) n) (sym is) ∙ sym t)
+  abbrev has : List HeldRow → Bool
+  has rows = has_name (map row_of rows) n
 
-pub returns-then-same_bytes : goal.returns-then-same_bytes
-returns-then-same_bytes c =
-    let rows = c.args.rows.now in
-    let n = c.args.name.now in
-    let i = c.loop-number.number in
-    let r = c.index-rows-number.result in
-    let l = c.loop-number-test.true in
-    let e = c.if-same_bytes.ensures ∙ ap (λ (x : List ℕ). bytes_eq x n) c.as_bytes.ensures in
-    record {
-      test = sym (sym c.loop-number.invariant ∙ at_row rows n i r true l c.index-rows-number.is e);
-      place = (omega (arith, length-map rows row_of), ap (λ (x : Row). x.name) (get_or-map row_of rows i r opening l ∙ ap row_of (sym c.index-rows-number.is)) ∙ (bytes_eq-Decides (spelling r.name) n).0 (sym e));
-    }
-
-pub loop-number-preserved : goal.loop-number-preserved
-loop-number-preserved c =
-    sym (at_row c.args.rows.now c.args.name.now c.loop-number.number c.index-rows-number.result false c.loop-number-test.true c.index-rows-number.is (c.if-same_bytes.ensures ∙ ap (λ (x : List ℕ). bytes_eq x c.args.name.now) c.as_bytes.ensures)) ∙ c.loop-number.invariant
+  -- the first row that has the name, or none
+  Lookup-from_first : (rows : List HeldRow) (r : Option ℕ) → MatchOption r (AllWithin (λ x. is_it x ≡ false) rows 0 (length rows)) (λ i. (i < length rows) × HoldsAt (λ x. is_it x ≡ true) rows i × AllWithin (λ x. is_it x ≡ false) rows 0 i) → Lookup (map row_of rows) n r
+  Lookup-from_first [] None h = record { test = refl; place = tt }
+  Lookup-from_first [] (Some i) h = absurd (omega (arith, h.0))
+  Lookup-from_first (x ∷ xs) None h =
+      record { test = or_is has is_it refl (λ _ _. refl) (x ∷ xs) x false (λ e. absurd cc) (λ e i l. h i x (omega arith) l); place = tt }
+  Lookup-from_first (x ∷ xs) (Some i) h =
+      record {
+        test = or_is has is_it refl (λ _ _. refl) (x ∷ xs) x true (λ e. (i, h.0, h.1 x)) (λ e. absurd cc);
+        place = (omega (arith, h.0, length-map (x ∷ xs) row_of), ap (λ (r : Row). r.name) (get_or-map row_of (x ∷ xs) i x opening h.0) ∙ (bytes_eq-Decides _ n).0 (h.1 x));
+      }
 
 pub returns : goal.returns
-returns c = record { test = sym (at_drop_all (has c.args.name.now) c.args.rows.now c.loop-number.number c.loop-number-test.false) ∙ c.loop-number.invariant; place = tt }
+returns c =
+    let n = c.args.name.now in
+    Lookup-from_first n c.args.rows.now _ (IsFirst-from_position _ _ _ (λ x. is_it n x ≡ true) (λ x. is_it n x ≡ false) c.position.ensures.ran (YieldsList-from_slice c.args.rows.now cc) (λ x q k. search (rules, tests)) (λ x q k. search (rules, tests)))

@@ -1,34 +1,10 @@
-use Rattle.std.proofs.Common.{[], ◌∷◌, ◌++◌, sym, refl, ap, ◌∙◌, arith, w64, SFits, rules}
+use Rattle.std.proofs.Common.{refl, w64, SFits, rules}
 use Rattle.std.proofs.lemmas.Int.{to_z-of_z}
-use Rattle.std.proofs.lemmas.Bool.{true≢false}
-use Rattle.book.specs.Book.{Row, with_rows}
 use Rattle.book.specs.Held.{row_of, book_of}
-use Rattle.planner.specs.Calls.{event, numbered, refused}
-use Rattle.planner.proofs.Answering.{by_grant, by_want, rows_undone}
-use Rattle.planner.proofs.Holds.{rows_many, room_for_row, opens_with_row, joined_with_row}
+use Rattle.planner.specs.Calls.{event, refused}
+use Rattle.planner.proofs.Answering.{by_want, rows_undone}
+use Rattle.planner.proofs.Holds.{opens_with_row, joined_with_row}
 use Rattle.planner.proofs.plan.Plan.event.Goals as goal
-
-pub push_row-requires : goal.push_row-requires
-push_row-requires c =
-    let t = c.args.self.now.table in
-    let e : SFits w64 c.args.earliest = search rules in
-    let l : SFits w64 c.args.latest = search rules in
-    let r = simp to_z-of_z at c.in_ok-row.ensures in
-    omega (arith, rows_many t, room_for_row (book_of t) c.args.name.now c.args.mark c.args.earliest c.args.latest r.0)
-
-pub returns-in-Ok : goal.returns-in-Ok
-returns-in-Ok c =
-    let t = c.args.self.now.table in
-    let b = book_of t in
-    let e : SFits w64 c.args.earliest = search rules in
-    let l : SFits w64 c.args.latest = search rules in
-    let r = simp to_z-of_z at c.in_ok-row.ensures in
-    record {
-      answer = by_grant b (event c.args.name.now c.args.mark c.args.earliest c.args.latest) (numbered c.len-number.result) (book_of c.push_row.new.self) r.0
-          (ap numbered (c.len-number.ensures ∙ sym (rows_many t)))
-          (c.push_row.ensures.book ∙ ap (λ (x : Row). with_rows b (b.rows ++ x ∷ [])) r.1);
-      stays = λ h. absurd (true≢false h);
-    }
 
 pub returns-in-Err : goal.returns-in-Err
 returns-in-Err c =
@@ -39,11 +15,11 @@ returns-in-Err c =
     record {
       answer = by_want b (event c.args.name.now c.args.mark c.args.earliest c.args.latest) (refused 14) (book_of c.pop_row.new.self) 14 r.0 refl refl
           (rows_undone b (book_of c.push_row.new.self) (book_of c.pop_row.new.self) (row_of c.in_ok-row.row) c.push_row.ensures.book c.pop_row.ensures);
-      stays = λ h. refl;
+      stays = c.in-Err.ensures;
     }
 
-pub invariant_of-self : goal.invariant_of-self
-invariant_of-self c =
+pub invariant_of-self-in_default : goal.invariant_of-self-in_default
+invariant_of-self-in_default c =
     let p = c.args.self.now in
     let b = book_of p.table in
     let z = book_of c.push_row.new.self in
