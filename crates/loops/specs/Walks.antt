@@ -4,13 +4,17 @@ use Rattle.std.specs.List.{Contains, All}
 use Rattle.search.specs.declared.item.Item.{Item}
 use Rattle.search.specs.declared.values.CarriedTime.{CarriedTime}
 use Rattle.search.specs.Carried.{carried}
-use Rattle.search.specs.Rounds.{Before, lift, best, Last}
+use Rattle.search.specs.Rounds.{Before, lift, best, Last, Run}
 use Rattle.loops.specs.Levels.{level}
 use Rattle.loops.specs.Loops.{picked}
 
 -- the reading of event v after so many rounds from the opening
 abbrev pub after : List Item → ℕ → ℕ → Option CarriedTime
 after items = best carried items 0
+
+-- these are the causes of a search from the opening in which every round changed something, event `last` last
+abbrev pub Ran : List Item → List (List (Option ℕ)) → ℕ → Type 0
+Ran items causes last = (layer : List (Option CarriedTime)) × Run carried items 0 (length causes) layer causes last
 
 -- the chain goes on from event u after round k, an item a round, and each item is why its event changed
 abbrev pub Falls : List Item → ℕ → ℕ → List Item → Type 0

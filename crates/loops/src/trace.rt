@@ -1,11 +1,8 @@
 //! The loop behind a change that comes too late.
-ghost use Rattle.std.specs.Prelude.{◌≡◌, ℕ, ◌<◌, ◌≤◌, List, length, ℤ, Option, slice_range};
-ghost use Rattle.search.specs.declared.values.CarriedTime.{CarriedTime as Carried};
-ghost use Rattle.search.specs.Carried.{carried};
-ghost use Rattle.search.specs.Rounds.{Run};
+ghost use Rattle.std.specs.Prelude.{◌≡◌, ℕ, ◌<◌, ◌≤◌, length, ℤ, slice_range};
 ghost use Rattle.loops.specs.Levels.{room, Ordered, Periods, Steps, Keeps};
 ghost use Rattle.loops.specs.Loops.{Reducing, picked};
-ghost use Rattle.loops.specs.Walks.{Known, Path, Back, Found};
+ghost use Rattle.loops.specs.Walks.{Ran, Known, Path, Back, Found};
 
 use search::{Causes, Item};
 use std::ops::Range;
@@ -13,7 +10,7 @@ use std::ops::Range;
 // The numbers of the items by which the event that changed last came to its reading, one a round, from the opening on.
 fn walk(items: &[Item], causes: &[Causes], last: usize, path: &mut [u16])
     requires long { length path.old ≡ length causes.now }
-    requires run { (layer : List (Option Carried)) × Run carried items.now 0 (length causes.now) layer causes.now last }
+    requires run { Ran items.now causes.now last }
     ensures { Path items.now path.new }
 {
     let mut at = last;
@@ -61,7 +58,7 @@ impl Leveled<'_> {
         requires long { room self.now.levels.now ≤ length path.now }
         ensures { Found self.now.levels.now self.now.items.now path.now result.start result.end }
     {
-        // A range: its number cuts the path, and is the answer; `find_map` says no more and wants two functions for it.
+        // A range: its number cuts the path. With `find_map` it stays open that its closure may be called.
         for start in 0..path.len() {
             if let Some(count) = self.back(&path[start..]) {
                 return start..start + count;
@@ -82,7 +79,7 @@ pub fn loop_behind(
 ) -> Range<usize>
     requires ordered { Ordered levels.now items.now }
     requires steps { (period : ℕ → ℤ) × Periods period × Steps period levels.now items.now }
-    requires run { (layer : List (Option Carried)) × Run carried items.now 0 (length causes.now) layer causes.now last }
+    requires run { Ran items.now causes.now last }
     requires full { length causes.now ≡ room levels.now }
     requires long { length path.old ≡ length causes.now }
     ensures inside { (result.start ≤ result.end) × (result.end ≤ length path.new) }

@@ -1,5 +1,6 @@
 -- What a refusal says: its number, and a loop where want of a timetable is the cause.
-use Rattle.std.specs.Prelude.{ℕ, List, [], take, Ok, Err, Result}
+use Rattle.std.specs.Prelude.{ℕ, List, [], Ok, Err, Result}
+use Rattle.timetable.specs.Records.{codes_of}
 use Rattle.planner.specs.declared.refusal.Refusal.{Refusal}
 use Rattle.planner.specs.declared.refusal.Refusal.TheVariants.{PeriodRange, LengthRange, EventsFull, NameForm, NameTaken, EventWindow, EventUntimed, GapUnknownEvent, GapSameEvent, GapWidth, GapsFull, GapUntimed, TimeUnknownEvent}
 use Rattle.planner.specs.Calls.{Answer, accepted, numbered, refused}
@@ -27,12 +28,12 @@ loop_of EventsFull = []
 loop_of NameForm = []
 loop_of NameTaken = []
 loop_of EventWindow = []
-loop_of (EventUntimed l) = take l.count l.codes
+loop_of (EventUntimed l) = codes_of l
 loop_of GapUnknownEvent = []
 loop_of GapSameEvent = []
 loop_of GapWidth = []
 loop_of GapsFull = []
-loop_of (GapUntimed l) = take l.count l.codes
+loop_of (GapUntimed l) = codes_of l
 loop_of TimeUnknownEvent = []
 
 -- ---- results of the code as answers

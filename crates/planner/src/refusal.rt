@@ -1,5 +1,6 @@
 //! Why a call is refused.
-ghost use Rattle.std.specs.Prelude.{◌≡◌, take};
+ghost use Rattle.std.specs.Prelude.{◌≡◌};
+ghost use Rattle.timetable.specs.Records.{codes_of};
 ghost use Rattle.planner.specs.declared.refusal.Refusal.TheVariants.{NameForm, PeriodRange};
 ghost use Rattle.planner.specs.Refusals.{number_of, loop_of};
 
@@ -51,7 +52,7 @@ impl Refusal {
     /// The loop record: empty unless want of a timetable is the cause.
     // A record and no `Option`: the rules want one on every end of a call.
     pub fn reducing_loop(&self) -> Loop
-        ensures { take result.count result.codes ≡ loop_of self.now }
+        ensures { codes_of result ≡ loop_of self.now }
     {
         match self {
             Refusal::EventUntimed(found) | Refusal::GapUntimed(found) => *found,

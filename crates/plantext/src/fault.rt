@@ -50,6 +50,7 @@ impl Cause {
 }
 
 /// What is wrong with a line: the field, 0 where it is no single field, and the cause.
+// Numbers and no `Option`, here and below: a fault has a line and a field by the rules, 0 where they name none.
 #[derive(Clone, Copy, Debug, PartialEq, Eq)]
 pub struct LineFault {
     pub field: usize,

@@ -11,7 +11,7 @@ use timetable::Loop;
 pub struct ShortBuffer;
 
 impl ShortBuffer {
-    /// The number by which the rules call it.
+    /// The number by which the rules call it, as they do each refusal.
     pub const NUMBER: u16 = 66;
 }
 
@@ -22,23 +22,23 @@ fn put_time(to: &mut Cursor<'_>, name: &[u8], time: i64) {
     to.bytes(b"time,");
     to.bytes(name);
     to.bytes(b",");
-    to.integer(time);
+    to.number(time);
     to.bytes(b"\n");
 }
 
 fn put_depth(to: &mut Cursor<'_>, depth: usize) {
     to.bytes(b"depth,");
-    to.natural(depth as u64);
+    to.number(depth);
     to.bytes(b"\n");
 }
 
 fn put_header(to: &mut Cursor<'_>, closing: Closing, tick: u64) {
     to.bytes(b"header,");
-    to.natural(closing.planned as u64);
+    to.number(closing.planned);
     to.bytes(b",");
-    to.natural(closing.reached as u64);
+    to.number(closing.reached);
     to.bytes(b",");
-    to.natural(tick);
+    to.number(tick);
     to.bytes(b"\n");
 }
 
@@ -54,13 +54,14 @@ fn put_scan(to: &mut Cursor<'_>, scan: &Released, tick: u64) {
 
 // The loop line; nothing for an empty loop.
 fn put_loop(to: &mut Cursor<'_>, found: &Loop) {
-    if found.count == 0 {
+    let codes = found.as_slice();
+    if codes.is_empty() {
         return;
     }
     to.bytes(b"loop");
-    for code in found.codes.iter().take(found.count) {
+    for code in codes {
         to.bytes(b",");
-        to.natural(u64::from(*code));
+        to.number(*code);
     }
     to.bytes(b"\n");
 }
@@ -68,13 +69,13 @@ fn put_loop(to: &mut Cursor<'_>, found: &Loop) {
 // The lines of a fault.
 fn put_fault(to: &mut Cursor<'_>, fault: &Fault) {
     to.bytes(b"fault,");
-    to.natural(u64::from(fault.cause.layer()));
+    to.number(fault.cause.layer());
     to.bytes(b",");
-    to.natural(fault.line as u64);
+    to.number(fault.line);
     to.bytes(b",");
-    to.natural(fault.field as u64);
+    to.number(fault.field);
     to.bytes(b",");
-    to.natural(u64::from(fault.cause.number()));
+    to.number(fault.cause.number());
     to.bytes(b"\n");
     if let Cause::Plan(refusal) = &fault.cause {
         put_loop(to, &refusal.reducing_loop());

@@ -20,6 +20,7 @@ pub enum Trouble {
     ShortBuffer,
 }
 
+// By hand: want of memory comes from a load too, where no value says so.
 impl From<AllocError> for Trouble {
     fn from(_e: AllocError) -> Trouble {
         Trouble::Memory

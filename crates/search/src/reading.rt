@@ -21,7 +21,7 @@ pub trait Reading: Copy {
         requires { (k : ℕ) × (k < most_rounds) × reached k self }
         ensures { result ≡ kind.stepped item.now self };
 
-    // Strictly before. No `Ord`: the kind's own order is the one that is stated, and a second would have to agree with it.
+    // Strictly before. No `Ord` in its stead: `Laws` speaks of the kind's own order, and means what it meant.
     fn before(self, other: Self) -> bool
         ensures { result ≡ kind.before self other };
 

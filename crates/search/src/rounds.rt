@@ -9,7 +9,7 @@ use crate::limits::EVENTS;
 use crate::reading::Reading;
 
 /// Of one round, for each event: the number of the item that brought a change there.
-// Two bytes each and no reference: the causes of all rounds lie on the stack.
+// Numbers and no references: the causes of all rounds lie on the stack.
 pub type Causes = [Option<u16>; EVENTS];
 
 // Why each event changed in a round, and the event that changed last.
@@ -65,7 +65,8 @@ fn bring<R: Reading>(item: &Item, offered: Option<R>, next: &mut [Option<R>]) ->
     false
 }
 
-// One round: `next` gets what the items make of `layer`.
+// One round: `next` gets what the items make of `layer`. Both are slices and no arrays, which `search` would have to ask
+// its callers for.
 fn round<R: Reading>(items: &[Item], layer: &[Option<R>], next: &mut [Option<R>]) -> Made
     requires few { length items.now ≤ most_items }
     requires wide { (length layer.now ≡ most_events) × (length next.old ≡ most_events) }

@@ -20,6 +20,7 @@ pub fn first_field<'a>(line: &'a [u8]) -> (&'a [u8], Option<&'a [u8]>)
 }
 
 /// The fields of what is left of a line, one after the other.
+// By `first_field`, which says what a field is; the library's `split` of a slice says it by a closure.
 #[derive(Clone, Copy, Debug, PartialEq, Eq)]
 pub struct Fields<'a> {
     pub left: Option<&'a [u8]>,

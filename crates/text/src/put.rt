@@ -8,6 +8,8 @@ ghost use Rattle.text.specs.Put.{PrintsWhole, PrintsAt};
 
 use itoa::{Buffer, Integer};
 
+// The three public functions take a buffer and a place, as they did; a `Cursor` holds both.
+
 /// Answers the place behind `bytes` at `at`, and writes them there if they fit.
 pub fn put_bytes(out: &mut [u8], at: usize, bytes: &[u8]) -> usize
     ensures { PrintsWhole out.old at bytes.now result out.new }
@@ -55,17 +57,10 @@ impl<'a> Cursor<'a> {
         self.at = put_bytes(self.out, self.at, bytes);
     }
 
-    /// As the function `put_natural`.
-    pub fn natural(&mut self, n: u64)
-        ensures { PrintsAt self.old (decimal n) self.new }
+    /// As the functions `put_natural` and `put_integer`, with any number.
+    pub fn number<I: Integer>(&mut self, n: I)
+        ensures { PrintsAt self.old (I.text n) self.new }
     {
-        self.at = put_natural(self.out, self.at, n);
-    }
-
-    /// As the function `put_integer`.
-    pub fn integer(&mut self, z: i64)
-        ensures { PrintsAt self.old (signed_decimal z) self.new }
-    {
-        self.at = put_integer(self.out, self.at, z);
+        self.at = put_number(self.out, self.at, n);
     }
 }

@@ -3,6 +3,7 @@ use Rattle.std.specs.Prelude.{◌≡◌, ℕ, ◌<◌, ◌≤◌, List, length, 
 use Rattle.book.specs.Book.{Book}
 use Rattle.timetable.specs.declared.found.Found.{Found}
 use Rattle.timetable.specs.declared.found.Loop.{Loop}
+use Rattle.timetable.specs.Records.{codes_of}
 use Rattle.timetable.specs.Timetable.{at, Feasible, NoLater, Latest}
 use Rattle.timetable.specs.Chains.{LeastReading, Depth, bound, ReducingLoop}
 use Rattle.timetable.specs.Order.{Tightens, Loosens}
@@ -27,4 +28,4 @@ pub record Refused (b : Book) (codes : List ℕ) : Type 0 where
 
 abbrev pub Answers : Book → Result Found Loop → Type 0
 Answers b (Ok f) = Solved b f.depth f.times
-Answers b (Err l) = Refused b (take l.count l.codes)
+Answers b (Err l) = Refused b (codes_of l)

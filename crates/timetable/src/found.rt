@@ -11,7 +11,7 @@ use search::{CarriedTime, Item};
 use std::array;
 
 /// The latest time of each event by number, 0 beyond the last, and the depth.
-// There is a time for each event that a plan may have, since no heap is asked for once a plan is made.
+// An array and no list: the solver promises 0 beyond the last event, and answers by value.
 #[derive(Clone, Copy, Debug, PartialEq, Eq)]
 pub struct Found {
     pub depth: usize,
@@ -20,7 +20,7 @@ pub struct Found {
 }
 
 /// The loop record: so many codes of items, in their order along the loop, and 0 beyond them.
-// It has a count and room for the longest loop, since no heap is asked for once a plan is made.
+// The rules want it so: a count, and room for the longest loop.
 #[derive(Clone, Copy, Debug, PartialEq, Eq)]
 pub struct Loop {
     pub count: usize,
@@ -42,7 +42,7 @@ fn code_at(items: &[Item], path: &[u16], k: usize) -> u16
     ensures code { k < length path.now → result ≡ slice_index (map (λ (i : Searched). i.code) (picked items.now path.now)) k }
     ensures past { length path.now ≤ k → result ≡ 0 }
 {
-    // Written out: of `map_or` the answer is not found without a longer lemma.
+    // Written out: with `map_or` the answer stays open.
     match path.get(k) {
         Some(&number) => items[usize::from(number)].code,
         None => 0,
@@ -63,6 +63,8 @@ impl Found {
 }
 
 impl Loop {
+    ghost use Rattle.timetable.specs.Records.{codes_of};
+
     pub fn empty() -> Loop
         ensures { result.count ≡ 0 }
     {
@@ -72,12 +74,19 @@ impl Loop {
         }
     }
 
+    /// The codes that it has.
+    pub fn as_slice(&self) -> &[u16]
+        ensures { result.now ≡ codes_of self.now }
+    {
+        &self.codes[..self.count]
+    }
+
     /// The codes of the path's items.
     pub(crate) fn new(items: &[Item], path: &[u16]) -> Loop
         requires known { Known items.now path.now }
         requires short { length path.now ≤ most_loop }
         ensures count { result.count ≡ length path.now }
-        ensures codes { take result.count result.codes ≡ map (λ (i : Searched). i.code) (picked items.now path.now) }
+        ensures codes { codes_of result ≡ map (λ (i : Searched). i.code) (picked items.now path.now) }
     {
         Loop {
             count: path.len(),

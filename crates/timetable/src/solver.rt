@@ -1,12 +1,11 @@
 //! The latest timetable of a plan, or a loop that shows that there is none.
-ghost use Rattle.std.specs.Prelude.{◌≡◌, ◌<◌, ◌≤◌, true, List, map, length, take, ℤ, Option};
-ghost use Rattle.search.specs.declared.values.CarriedTime.{CarriedTime as Carried};
-ghost use Rattle.search.specs.Carried.{carried};
-ghost use Rattle.search.specs.Rounds.{Run};
+ghost use Rattle.std.specs.Prelude.{◌≡◌, ◌<◌, ◌≤◌, true, map, length, ℤ};
+ghost use Rattle.loops.specs.Walks.{Ran};
 ghost use Rattle.book.specs.Book.{opens, all_join};
 ghost use Rattle.book.specs.Held.{row_of, gap_of, held};
 ghost use Rattle.book.specs.Limits.{most_events, most_gaps};
 ghost use Rattle.timetable.specs.Problem.{book_of, stands, item_count, bound_of, Gathers};
+ghost use Rattle.timetable.specs.Records.{codes_of};
 ghost use Rattle.timetable.specs.Solved.{Refused, Answers};
 
 use crate::found::{Found, Loop};
@@ -25,10 +24,10 @@ fn refuse(
     path: &mut [u16],
 ) -> Loop
     requires gathered { Gathers problem.now items.now }
-    requires run { (layer : List (Option Carried)) × Run carried items.now 0 (length causes.now) layer causes.now last }
+    requires run { Ran items.now causes.now last }
     requires full { length causes.now ≡ bound_of problem.now }
     requires long { length path.old ≡ bound_of problem.now }
-    ensures { stands problem.now ≡ true → (h : ℤ) → Refused (book_of problem.now h) (take result.count result.codes) }
+    ensures { stands problem.now ≡ true → (h : ℤ) → Refused (book_of problem.now h) (codes_of result) }
 {
     if !problem.stands() {
         return Loop::empty();

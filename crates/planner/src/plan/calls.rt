@@ -50,6 +50,7 @@ fn row_of(
     if table.number_of(name).is_some() {
         return Err(Refusal::NameTaken);
     }
+    // Not by `ok_or` and `?`: what is known of the call does not reach the end that `?` makes.
     let Some(window) = table.window_of(earliest, latest) else {
         return Err(Refusal::EventWindow);
     };
@@ -91,6 +92,8 @@ impl Plan {
             found: alone(),
         })
     }
+
+    // Of make, event and gap each promises of itself that a refusal leaves the times.
 
     /// Turns it into the opening alone, with this period and length.
     pub fn make(&mut self, period: i64, length: i64) -> Result<(), Refusal>
@@ -162,6 +165,7 @@ impl Plan {
     pub fn time(&self, event: usize) -> Result<i64, Refusal>
         ensures { MatchResult result (λ t. (known (plan_book self.now) event ≡ true) × (t ≡ slice_index_or (plan_times self.now) event (pos 0))) (λ e. (known (plan_book self.now) event ≡ false) × (number_of e ≡ 60)) }
     {
+        // A match: by `copied` and `ok_or` the answer stays open.
         match self.times().get(event) {
             Some(time) => Ok(*time),
             None => Err(Refusal::TimeUnknownEvent),

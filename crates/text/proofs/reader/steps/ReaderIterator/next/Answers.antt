@@ -30,10 +30,3 @@ returns-clause-steps c =
       grows = omega arith;
       within = behind;
     }
-
-pub returns-clause-goes : goal.returns-clause-goes
-returns-clause-goes c =
-    let xs = c.args.self.now.text.now in
-    let at = c.args.self.now.cursor in
-    let found = rw (take_rest xs at) at c.in_ok-n.ensures in
-    record { on = λ _. (tt, tt, simp length-drop (omega (arith, found.0, length-drop at xs))); keeps = tt; rests = λ _. tt }
