@@ -35,6 +35,7 @@ impl Leveled<'_> {
     // How many of the path's items lead back to where the first begins, with no event of a higher level on the way.
     fn back(&self, path: &[u16]) -> Option<usize>
         requires some { 0 < length path.now }
+        // A clause and no type: `path` is a part of one that is being searched.
         requires known { Known self.now.items.now path.now }
         ensures { Back self.now.levels.now (picked self.now.items.now path.now) result }
     {
@@ -67,6 +68,8 @@ impl Leveled<'_> {
         unreachable!()
     }
 }
+
+// `causes` and `last` are two parameters, which `Ran` ties to the items; these are read with `levels` too.
 
 /// The reducing loop behind a change in the last round that there is room for: the range of a part of `path`, which gets
 /// the numbers of the items on the way to that change. `levels` has the level of each event.

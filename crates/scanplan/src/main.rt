@@ -20,6 +20,7 @@ fn read_input(rt: &HostRuntime) -> anyhow::Result<Vec<u8>> {
 
 fn answer(rt: &HostRuntime) -> anyhow::Result<Printed> {
     let text = read_input(rt)?;
+    // An array, with the length in what `run` answers: printing asks for no memory.
     let mut out = [0u8; PRINT];
     let printed = run(rt.alloc(), text.as_slice(), &mut out)?;
     let (Printed::Timetable(length) | Printed::Fault(length)) = printed;

@@ -5,6 +5,7 @@ use std::alloc::{AllocError, Global};
 use thiserror::Error;
 
 /// What was printed: so many bytes of a timetable, or of a fault.
+// Both are successes; as a `Result` a fault that was printed would be an error.
 #[derive(Clone, Copy, Debug, PartialEq, Eq)]
 pub enum Printed {
     Timetable(usize),

@@ -6,6 +6,7 @@ ghost use Rattle.search.specs.Floor.{floor, GreatestMultiple, FloorFacts};
 
 use crate::limits::PERIOD;
 
+/// So many ticks, from 1 to the longest period.
 #[derive(Clone, Copy)]
 pub struct Period {
     ticks: i64,

@@ -76,6 +76,7 @@ pub fn solve(period: Period, rows: &[Row], gaps: &[Gap]) -> Result<Found, Loop>
         framed: false,
         code: 0,
     };
+    // Arrays of fixed size, since no heap is asked for; each is lent as just the part that is needed.
     let mut items = [blank; ITEMS];
     let mut causes = [[None; EVENTS]; LOOP];
     let mut path = [0u16; LOOP];

@@ -32,7 +32,7 @@ fn retime(table: &Table, found: &mut Found) -> Result<(), Loop>
     Ok(())
 }
 
-// The row of a new event.
+// The row of a new event, from the arguments that the rules give the call.
 #[tactic(auto, using(crate::proofs::Holds::rows_many))]
 fn row_of(
     table: &Table,
@@ -61,7 +61,7 @@ fn row_of(
     })
 }
 
-// The new gap.
+// The new gap, from the arguments that the rules give the call.
 #[tactic(auto, using(crate::proofs::Holds::rows_many, crate::proofs::Holds::gaps_many))]
 fn gap_of(table: &Table, from: usize, to: usize, width: i64) -> Result<Gap, Refusal>
     ensures { MatchResult result (λ x. (failed (book_of table.now) (gap_call from to width) ≡ None) × (gap_of x ≡ record { from = from; to = to; width = width })) (λ e. failed (book_of table.now) (gap_call from to width) ≡ Some (number_of e)) }
