@@ -18,19 +18,13 @@ pub enum Trouble {
     #[error("no memory for the plan")]
     Memory,
     #[error("no room to print")]
-    ShortBuffer,
+    ShortBuffer(#[from] ShortBuffer),
 }
 
 // By hand: want of memory comes from a load too, where no value says so.
 impl From<AllocError> for Trouble {
     fn from(_e: AllocError) -> Trouble {
         Trouble::Memory
-    }
-}
-
-impl From<ShortBuffer> for Trouble {
-    fn from(_e: ShortBuffer) -> Trouble {
-        Trouble::ShortBuffer
     }
 }
 
