@@ -17,8 +17,8 @@ pub record PrintsWhole (out : List ℕ) (at : ℕ) (bs : List ℕ) (r : ℕ) (af
   pub prints : Prints out at bs r after
   pub full : length out < at + length bs → after ≡ out
 
--- they are printed into a cursor's buffer at its place, which moves on; it is the same buffer
+-- they are printed into a cursor's buffer at its place, which moves on, or leave it as it was; it is the same buffer
 pub record PrintsAt (old : Cursor) (bs : List ℕ) (new : Cursor) : Type 0 where
-  pub prints : Prints old.out.now old.at bs new.at new.out.now
+  pub prints : PrintsWhole old.out.now old.at bs new.at new.out.now
   pub long : length new.out.now ≡ length old.out.now
   pub same : new.out.ghost_name ≡ old.out.ghost_name
