@@ -1,5 +1,5 @@
 //! The fields of a line.
-ghost use Rattle.std.specs.Prelude.{◌≡◌, ◌<◌, [], ◌∷◌, length, IfSome, MatchOption};
+ghost use Rattle.std.specs.Prelude.{◌≡◌, ◌≢◌, ◌<◌, [], ◌∷◌, length, IfSome, MatchOption};
 ghost use Rattle.std.specs.Iterator.{Drains, YieldsFirstRef, item_count};
 ghost use Rattle.text.specs.Fields.{fields, fields_left, left_of, GivesOther};
 
@@ -55,4 +55,28 @@ where
         Some(_) => None,
         None => Some(found),
     }
+}
+
+/// The fields of what is left of a line, if there are just two.
+pub fn two<'a>(left: Option<&'a [u8]>) -> Option<(&'a [u8], &'a [u8])>
+    ensures { MatchOption result (length (fields_left left.entry) ≢ 2) (λ p. fields_left left.entry ≡ p.0.now ∷ p.1.now ∷ []) }
+{
+    let [a, b] = exactly::<_, 2>(Fields { left })?;
+    Some((a, b))
+}
+
+/// The fields of what is left of a line, if there are just three.
+pub fn three<'a>(left: Option<&'a [u8]>) -> Option<(&'a [u8], &'a [u8], &'a [u8])>
+    ensures { MatchOption result (length (fields_left left.entry) ≢ 3) (λ p. fields_left left.entry ≡ p.0.now ∷ p.1.now ∷ p.2.now ∷ []) }
+{
+    let [a, b, c] = exactly::<_, 3>(Fields { left })?;
+    Some((a, b, c))
+}
+
+/// The fields of what is left of a line, if there are just four.
+pub fn four<'a>(left: Option<&'a [u8]>) -> Option<(&'a [u8], &'a [u8], &'a [u8], &'a [u8])>
+    ensures { MatchOption result (length (fields_left left.entry) ≢ 4) (λ p. fields_left left.entry ≡ p.0.now ∷ p.1.now ∷ p.2.now ∷ p.3.now ∷ []) }
+{
+    let [a, b, c, d] = exactly::<_, 4>(Fields { left })?;
+    Some((a, b, c, d))
 }

@@ -11,7 +11,7 @@ mod part;
 mod put;
 mod reader;
 
-pub use fields::{Fields, exactly, first_field};
+pub use fields::{Fields, exactly, first_field, four, three, two};
 pub use number::read_number;
 pub use part::Part;
 pub use put::{Cursor, put_bytes, put_integer, put_natural};
