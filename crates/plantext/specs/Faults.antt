@@ -1,9 +1,10 @@
 -- What a load fault says: its layer and its number.
-use Rattle.std.specs.Prelude.{ℕ}
+use Rattle.std.specs.Prelude.{◌≡◌, ℕ, IfErr, Result}
 use Rattle.planner.specs.Refusals as refusals
 use Rattle.plantext.specs.declared.fault.TextFault.{TextFault}
 use Rattle.plantext.specs.declared.fault.TextFault.TheVariants.{TooLong, Unended, FirstWord, FieldCount, BadNumber, UnknownName, MarkWord}
 use Rattle.plantext.specs.declared.fault.Cause.{Cause}
+use Rattle.plantext.specs.declared.fault.LineFault.{LineFault}
 use Rattle.plantext.specs.declared.fault.Cause.TheVariants.{Text, Plan}
 
 abbrev pub text_number : TextFault → ℕ
@@ -24,3 +25,7 @@ layer_of (Plan r) = 2
 abbrev pub number_of : Cause → ℕ
 number_of (Text f) = text_number f
 number_of (Plan r) = refusals.number_of r
+
+-- what reads a line finds fault with its text alone
+abbrev pub TextFaults : {A : Type 0} → Result A LineFault → Type 0
+TextFaults r = IfErr r (λ e. layer_of e.cause ≡ 1)
