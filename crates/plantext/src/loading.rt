@@ -1,5 +1,6 @@
 //! Loads a plan text: make, and then the calls of its lines in their order.
 ghost use Rattle.std.specs.Prelude.{◌≡◌, OnErr};
+ghost use Rattle.plantext.specs.Faults.{TextFaults};
 
 use crate::fault::{Fault, LineFault, LoadError, TextFault};
 use crate::limits::TEXT;
@@ -25,7 +26,9 @@ fn check_whole(text: &[u8]) -> Result<(), Fault> {
 }
 
 // The event that this field names.
-fn named(plan: &Plan, name: &[u8], field: usize) -> Result<usize, LineFault> {
+fn named(plan: &Plan, name: &[u8], field: usize) -> Result<usize, LineFault>
+    ensures { TextFaults result }
+{
     plan.number_of(name)
         .ok_or(LineFault::text(field, TextFault::UnknownName))
 }
@@ -61,8 +64,9 @@ fn take_line(plan: &mut Plan, line: &[u8], first: bool) -> Result<(), LineFault>
 
 // Makes the calls of all lines.
 fn take_lines(plan: &mut Plan, text: &[u8]) -> Result<(), Fault> {
-    for (number, (line, _rest)) in (1..).zip(Reader::new(text)) {
-        take_line(plan, line.bytes, number == 1).map_err(|fault| fault.on_line(number))?;
+    let mut reader = Reader::new(text);
+    while let Some((line, _rest)) = reader.next() {
+        take_line(plan, line.bytes, reader.line == 1).map_err(|fault| fault.on_line(reader.line))?;
     }
     Ok(())
 }
