@@ -62,7 +62,7 @@ module _ (items : List Item) where
           not_before carried_laws (d (suc (suc k)) j) (d (suc k) j) c.fell (subst (AtMost carried (d (suc k) j)) s t)
 
   -- a change has its item
-  caused : (k j : ℕ) (o : Option ℕ) → Why carried items (d k) (d (suc k)) j o → Before carried (d (suc k) j) (d k j) → is_some o ≡ true
+  pub caused : (k j : ℕ) (o : Option ℕ) → Why carried items (d k) (d (suc k)) j o → Before carried (d (suc k) j) (d k j) → is_some o ≡ true
   caused k j None w b = absurd (not_before carried_laws (d (suc k) j) (d k j) b (subst (λ (o : Option CarriedTime). AtMost carried o (d (suc k) j)) w (most_refl carried_laws (d (suc k) j))))
   caused k j (Some n) w b = refl
 
