@@ -21,7 +21,7 @@ pub enum Trouble {
     ShortBuffer(#[from] ShortBuffer),
 }
 
-// By hand: want of memory comes from a load too, where no value says so.
+// By hand: want of memory comes from a load too, which hands over no value that a derive could take.
 impl From<AllocError> for Trouble {
     fn from(_e: AllocError) -> Trouble {
         Trouble::Memory

@@ -95,9 +95,9 @@ fn open<R: Reading>(start: usize, layer: &mut [Option<R>])
     layer[start] = Some(R::start());
 }
 
-/// Rounds until one changes nothing, but no more than `causes` has rows: an error where the last of these still
-/// changed something. `layer` gets for each event the least reading of chains from `start` of up to as many items as
-/// rounds were made; row k of `causes` says which item brought each change of round k. `next` is memory to work in.
+/// Rounds until one changes nothing, but no more than `causes` has rows: an error where none of these was such a one.
+/// `layer` gets for each event the least reading of chains from `start` of up to as many items as rounds were made; row
+/// k of `causes` says which item brought each change of round k. `next` is memory to work in.
 pub fn search<R: Reading>(
     items: &[Item],
     start: usize,

@@ -15,7 +15,8 @@ use book::{Gap, Row};
 use loops::loop_behind;
 use search::{CarriedTime, Causes, Item, Period, search};
 
-// The loop behind a change in the last round that there is room for. `path` is memory to work in.
+// The loop behind a change in the last round that there is room for; the empty one where the problem does not stand.
+// `path` is memory to work in.
 fn refuse(
     problem: &Problem,
     items: &[Item],
