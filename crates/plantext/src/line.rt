@@ -37,7 +37,7 @@ fn field_count() -> LineFault
 fn number_in(text: &[u8], field: usize) -> Result<i64, LineFault>
     ensures { TextFaults result }
 {
-    read_number(text).ok_or(LineFault::text(field, TextFault::BadNumber))
+    read_number(text).ok_or_else(|| LineFault::text(field, TextFault::BadNumber))
 }
 
 // The mark that stands in this field.
@@ -54,7 +54,7 @@ fn mark_in(text: &[u8], field: usize) -> Result<Mark, LineFault>
 fn read_scan<'a>(left: Option<&'a [u8]>) -> Result<Line<'a>, LineFault>
     ensures { TextFaults result }
 {
-    let (period, length) = two(left).ok_or(field_count())?;
+    let (period, length) = two(left).ok_or_else(field_count)?;
     let period = number_in(period, 2)?;
     let length = number_in(length, 3)?;
     Ok(Line::Scan { period, length })
@@ -63,7 +63,7 @@ fn read_scan<'a>(left: Option<&'a [u8]>) -> Result<Line<'a>, LineFault>
 fn read_event<'a>(left: Option<&'a [u8]>) -> Result<Line<'a>, LineFault>
     ensures { TextFaults result }
 {
-    let (name, mark, earliest, latest) = four(left).ok_or(field_count())?;
+    let (name, mark, earliest, latest) = four(left).ok_or_else(field_count)?;
     let earliest = number_in(earliest, 4)?;
     let latest = number_in(latest, 5)?;
     let mark = mark_in(mark, 3)?;
@@ -78,7 +78,7 @@ fn read_event<'a>(left: Option<&'a [u8]>) -> Result<Line<'a>, LineFault>
 fn read_gap<'a>(left: Option<&'a [u8]>) -> Result<Line<'a>, LineFault>
     ensures { TextFaults result }
 {
-    let (from, to, width) = three(left).ok_or(field_count())?;
+    let (from, to, width) = three(left).ok_or_else(field_count)?;
     let width = number_in(width, 4)?;
     Ok(Line::Gap { from, to, width })
 }

@@ -30,7 +30,7 @@ fn named(plan: &Plan, name: &[u8], field: usize) -> Result<usize, LineFault>
     ensures { TextFaults result }
 {
     plan.number_of(name)
-        .ok_or(LineFault::text(field, TextFault::UnknownName))
+        .ok_or_else(|| LineFault::text(field, TextFault::UnknownName))
 }
 
 // Makes the call that the line describes.
@@ -65,6 +65,7 @@ fn take_line(plan: &mut Plan, line: &[u8], first: bool) -> Result<(), LineFault>
 // Makes the calls of all lines.
 fn take_lines(plan: &mut Plan, text: &[u8]) -> Result<(), Fault> {
     let mut reader = Reader::new(text);
+    // By `while let`: the numbers of the lines are the reader's own, and a `for` would take the reader away.
     while let Some((line, _rest)) = reader.next() {
         take_line(plan, line.bytes, reader.line == 1).map_err(|fault| fault.on_line(reader.line))?;
     }

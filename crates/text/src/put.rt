@@ -1,7 +1,7 @@
 //! Prints into the caller's buffer, with no heap.
 //!
-//! A text is printed twice: first into an empty buffer, where the place that is reached is its length, and then into a
-//! buffer of that length.
+//! A text is printed twice: first into an empty buffer, where the place that is reached is its length, and then into the
+//! caller's, if it is long enough.
 ghost use Rattle.std.specs.Prelude.{decimal};
 ghost use Rattle.std.specs.Fmt.{signed_decimal};
 ghost use Rattle.text.specs.Put.{PrintsWhole, PrintsAt};
